@@ -1,0 +1,56 @@
+-- Document 01, "Refusal numbers": the number, the two details and the name's range of each refusal.
+use Prim.Native.Nat.{ℕ}
+use lib.IntN.{ℤ, pos}
+use Rattle.refusals.specs.declared.Told.{Told}
+use Rattle.refusals.specs.declared.Refusal.{Refusal}
+use Rattle.refusals.specs.declared.Refusal.the-variants.{RowSlice, Row, Encoding, InvalidUniversalRegister, InvalidDmIndex, InvalidDmModifier, UnsupportedPostModifyRegister, Dag1StoreSource, BranchOutOfRange, CallTargetOutOfRange, DuplicateLabel, UndefinedLabel, InvalidPmIndex, InvalidPmModifier, MixedDag, SameDagRegister, NotACompute, MultifunctionOperand, DuplicateDestination, LoopCountZero, LoopOutOfRange, EmptyLoop, UnclosedLoop, UnmatchedLoopEnd, SharedLoopEnd, LoopTailNotFullWidth, BranchInLoop, LabelInLoop, NoRoomForParcels, NoRoomForLabels, NoRoomForJumps, NoRoomForLoops, BrokenSlot, NoRoomForBytes}
+
+-- a number alone, with one detail, with two, with a name
+abbrev pub alone : ℕ → Told
+alone n = record { number = n; first = pos 0; second = pos 0; start = 0; length = 0 }
+
+abbrev pub one : ℕ → ℤ → Told
+one n a = record { number = n; first = a; second = pos 0; start = 0; length = 0 }
+
+abbrev pub two : ℕ → ℤ → ℤ → Told
+two n a b = record { number = n; first = a; second = b; start = 0; length = 0 }
+
+abbrev pub named : ℕ → ℕ → ℕ → Told
+named n a b = record { number = n; first = pos 0; second = pos 0; start = a; length = b }
+
+-- the table of refusals
+abbrev pub toldOf : Refusal → Told
+toldOf RowSlice = alone 1
+toldOf Row = alone 2
+toldOf Encoding = alone 3
+toldOf (InvalidUniversalRegister code) = one 4 (pos code)
+toldOf (InvalidDmIndex number) = one 5 (pos number)
+toldOf (InvalidDmModifier number) = one 6 (pos number)
+toldOf (UnsupportedPostModifyRegister code) = one 7 (pos code)
+toldOf (Dag1StoreSource code) = one 8 (pos code)
+toldOf (BranchOutOfRange offset) = one 9 offset
+toldOf (CallTargetOutOfRange target) = one 10 (pos target)
+toldOf (DuplicateLabel start length) = named 11 start length
+toldOf (UndefinedLabel start length) = named 12 start length
+toldOf (InvalidPmIndex number) = one 13 (pos number)
+toldOf (InvalidPmModifier number) = one 14 (pos number)
+toldOf (MixedDag index modifier) = two 15 (pos index) (pos modifier)
+toldOf (SameDagRegister code) = one 16 (pos code)
+toldOf NotACompute = alone 17
+toldOf (MultifunctionOperand which register) = two 18 (pos which) (pos register)
+toldOf (DuplicateDestination register) = one 19 (pos register)
+toldOf LoopCountZero = alone 20
+toldOf (LoopOutOfRange offset) = one 21 offset
+toldOf EmptyLoop = alone 22
+toldOf UnclosedLoop = alone 23
+toldOf UnmatchedLoopEnd = alone 24
+toldOf SharedLoopEnd = alone 25
+toldOf (LoopTailNotFullWidth parcel) = one 26 (pos parcel)
+toldOf BranchInLoop = alone 27
+toldOf (LabelInLoop start length) = named 28 start length
+toldOf (NoRoomForParcels room) = one 29 (pos room)
+toldOf (NoRoomForLabels room) = one 30 (pos room)
+toldOf (NoRoomForJumps room) = one 31 (pos room)
+toldOf (NoRoomForLoops room) = one 32 (pos room)
+toldOf (BrokenSlot row) = one 33 (pos row)
+toldOf (NoRoomForBytes bytes) = one 34 (pos bytes)

@@ -1,0 +1,62 @@
+use Prim.Native.Nat.{_^_, _<_}
+use native.Mathlib.Omega.{arith}
+use mathlib.Core.Path.{_≡_, sym, ap, ap₂, _∙_}
+use mathlib.Core.Bool.{true, false}
+use lib.IntN.{ℤ, pos, natAbs, _+ℤ_}
+use lib.Signed.{ltZ}
+use mir.Syntax.{w64}
+use mir.Val.{toZ, ofZ}
+use mir.Facts.{toZ-ofZ, toZ-pos, sfits-lit}
+use Rattle.signs.specs.Signs.{modulo}
+use Rattle.signs.proofs.Ints.{same-lt, sum-neg, kept, modulo-lt, sfits-pos, cast-pos}
+use borrow.Author.Needs.{needs}
+use Rattle.signs.proofs.fold.Statement.{statement}
+use Rattle.signs.proofs.fold.Tie as tie
+use Rattle.signs.proofs.fold.Reads as reads
+use Rattle.signs.proofs.fold.Lts as lts
+
+-- src/lib.rt:12:21
+-- the sum, where z is negative
+sum : (c : tie.Then1) → toZ w64 (ofZ w64 (c .before .args .z)) +ℤ toZ w64 (c .before .args .size) ≡ pos (modulo (c .before .args .size) (c .before .args .z))
+sum c =
+    let z : ℤ = c .before .args .z in
+    let t : ltZ z (pos 0) ≡ true = sym (same-lt (c .before .fits .z) (sfits-lit {z = pos 0} tt)) ∙ c .if1 .taken in
+    ap₂ _+ℤ_ (toZ-ofZ (c .before .fits .z)) (toZ-pos w64 (omega arith)) ∙ sum-neg (c .before .args .size) z t (c .before .pre .0)
+
+small : (c : tie.Start) → modulo (c .args .size) (c .args .z) < 2 ^ 63
+small c = omega (arith, modulo-lt (c .args .size) (c .args .z) (c .pre .0))
+
+-- z itself, where it is not
+same : (c : tie.Else1) → toZ w64 (ofZ w64 (c .before .args .z)) ≡ pos (modulo (c .before .args .size) (c .before .args .z))
+same c =
+    let t : ltZ (c .before .args .z) (pos 0) ≡ false = sym (same-lt (c .before .fits .z) (sfits-lit {z = pos 0} tt)) ∙ c .if1 .left in
+    toZ-ofZ (c .before .fits .z) ∙ kept (c .before .args .size) (c .before .args .z) t
+
+cast-result : tie.Need-cast-result
+cast-result c = search needs
+
+-- src/lib.rt:12:17
+add-result : tie.Need-add-result
+add-result c = sfits-pos (sum c) (small (c .before))
+
+-- src/lib.rt:12:16
+cast-result-2 : tie.Need-cast-result-2
+cast-result-2 c = cast-pos (toZ-ofZ (add-result c) ∙ sum c) (small (c .before))
+
+-- src/lib.rt:12:50
+cast-result-3 : tie.Need-cast-result-3
+cast-result-3 c = cast-pos (same c) (small (c .before))
+
+-- src/lib.rt:8:1
+returns : tie.Need-returns
+returns c =
+    let e : natAbs (toZ w64 (ofZ w64 (toZ w64 (ofZ w64 (c .before .args .z)) +ℤ toZ w64 (c .before .args .size)))) ≡ modulo (c .before .args .size) (c .before .args .z) = ap natAbs (toZ-ofZ (add-result c) ∙ sum c) in
+    (e, rw e (modulo-lt (c .before .args .size) (c .before .args .z) (c .before .pre .0)))
+
+-- src/lib.rt:8:1
+returns-2 : tie.Need-returns-2
+returns-2 c = (ap natAbs (same c), rw (ap natAbs (same c)) (modulo-lt (c .before .args .size) (c .before .args .z) (c .before .pre .0)))
+
+pub fold-spec : {M : Type 1} → statement M
+fold-spec =
+    tie.close (tie.spec cast-result add-result cast-result-2 cast-result-3 returns returns-2)
