@@ -1,5 +1,4 @@
 -- The law of packing, once over every width and position: a word reads back as the numbers that were packed.
--- Assumes nothing.
 use Prim.Native.Nat.{ℕ, suc, zero, _+_, _*_, _^_, _-_, _/_, _%_, _≤_, _<_}
 use native.Mathlib.Omega.{arith}
 use native.Mathlib.Nat.{mod-eq-of-lt}

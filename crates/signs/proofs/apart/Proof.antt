@@ -1,3 +1,4 @@
+-- The difference of two numbers that are not negative, below 2 ^ 32, fits an i64.
 use Prim.Native.Nat.{_^_}
 use native.Mathlib.Omega.{arith}
 use mathlib.Core.Path.{_≡_, _∙_, ap₂}
@@ -9,25 +10,19 @@ use Rattle.signs.proofs.Ints.{apart-mag}
 use borrow.Author.Needs.{needs}
 use Rattle.signs.proofs.apart.Statement.{statement}
 use Rattle.signs.proofs.apart.Tie as tie
-use Rattle.signs.proofs.apart.Reads as reads
-use Rattle.signs.proofs.apart.Lts as lts
 
--- src/lib.rt:25:5
 apart-is : (c : tie.Start) → toZ w64 (c .args .to) -ℤ toZ w64 (c .args .from) ≡ pos (c .args .to) -ℤ pos (c .args .from)
 apart-is c = ap₂ _-ℤ_ (toZ-pos w64 {n = c .args .to} (omega arith)) (toZ-pos w64 {n = c .args .from} (omega arith))
 
 cast-result : tie.Need-cast-result
 cast-result c = search needs
 
--- src/lib.rt:25:20
 cast-result-2 : tie.Need-cast-result-2
 cast-result-2 c = search needs
 
--- src/lib.rt:25:5
 sub-result : tie.Need-sub-result
 sub-result c = rw (apart-is c) (record { sfits = apart-mag (2 ^ 63) (c .args .to) (c .args .from) (omega arith) (omega arith) })
 
--- src/lib.rt:21:1
 returns : tie.Need-returns
 returns c = toZ-ofZ (sub-result c) ∙ apart-is c
 

@@ -1,3 +1,4 @@
+-- A negative number and the size, or the number itself.
 use Prim.Native.Nat.{_^_, _<_}
 use native.Mathlib.Omega.{arith}
 use mathlib.Core.Path.{_≡_, sym, ap, ap₂, _∙_}
@@ -12,10 +13,7 @@ use Rattle.signs.proofs.Ints.{same-lt, sum-neg, kept, modulo-lt, sfits-
 use borrow.Author.Needs.{needs}
 use Rattle.signs.proofs.fold.Statement.{statement}
 use Rattle.signs.proofs.fold.Tie as tie
-use Rattle.signs.proofs.fold.Reads as reads
-use Rattle.signs.proofs.fold.Lts as lts
 
--- src/lib.rt:12:21
 -- the sum, where z is negative
 sum : (c : tie.Then1) → toZ w64 (ofZ w64 (c .before .args .z)) +ℤ toZ w64 (c .before .args .size) ≡ pos (modulo (c .before .args .size) (c .before .args .z))
 sum c =
@@ -35,25 +33,20 @@ same c =
 cast-result : tie.Need-cast-result
 cast-result c = search needs
 
--- src/lib.rt:12:17
 add-result : tie.Need-add-result
 add-result c = sfits-pos (sum c) (small (c .before))
 
--- src/lib.rt:12:16
 cast-result-2 : tie.Need-cast-result-2
 cast-result-2 c = cast-pos (toZ-ofZ (add-result c) ∙ sum c) (small (c .before))
 
--- src/lib.rt:12:50
 cast-result-3 : tie.Need-cast-result-3
 cast-result-3 c = cast-pos (same c) (small (c .before))
 
--- src/lib.rt:8:1
 returns : tie.Need-returns
 returns c =
     let e : natAbs (toZ w64 (ofZ w64 (toZ w64 (ofZ w64 (c .before .args .z)) +ℤ toZ w64 (c .before .args .size)))) ≡ modulo (c .before .args .size) (c .before .args .z) = ap natAbs (toZ-ofZ (add-result c) ∙ sum c) in
     (e, rw e (modulo-lt (c .before .args .size) (c .before .args .z) (c .before .pre .0)))
 
--- src/lib.rt:8:1
 returns-2 : tie.Need-returns-2
 returns-2 c = (ap natAbs (same c), rw (ap natAbs (same c)) (modulo-lt (c .before .args .size) (c .before .args .z) (c .before .pre .0)))
 

@@ -1,19 +1,16 @@
+-- The machine's two tests are the tests of the numbers.
 use mathlib.Core.Path.{_≡_, sym, _∙_}
 use mathlib.Core.Bool.{true, false}
 use lib.Signed.{leZ}
 use Rattle.signs.proofs.Ints.{same-le}
 use Rattle.signs.proofs.within.Statement.{statement}
 use Rattle.signs.proofs.within.Tie as tie
-use Rattle.signs.proofs.within.Reads as reads
-use Rattle.signs.proofs.within.Lts as lts
 
--- src/lib.rt:15:1
 returns : tie.Need-returns
 returns c =
     let l : leZ (c .before .args .low) (c .before .args .z) ≡ true = sym (same-le (c .before .fits .low) (c .before .fits .z)) ∙ c .if1 .taken in
     rw l (same-le (c .before .fits .z) (c .before .fits .high))
 
--- src/lib.rt:15:1
 returns-2 : tie.Need-returns-2
 returns-2 c =
     let l : leZ (c .before .args .low) (c .before .args .z) ≡ false = sym (same-le (c .before .fits .low) (c .before .fits .z)) ∙ c .if1 .left in
