@@ -11,7 +11,7 @@ help: ## this list
 
 run: ## build the bench program and run it on KERNEL (default: examples/branch.kernel)
 	@rt check bench
-	@target/bin/bench < $(KERNEL)
+	@sh tools/run target/bin/bench < $(KERNEL)
 
 test: ## the verdict: prove every crate from nothing, try the must-fail edits, run the programs
 	@rt ci

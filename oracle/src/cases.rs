@@ -1,0 +1,168 @@
+//! A list with the lengths of its lent buffers, and what a build of it leaves in them.
+
+use crate::list::List;
+use crate::row::{self, Row, WIDTH};
+use crate::second::{self, Lent, Limits, Record, Told, JUMP_ENTRY, LABEL_ENTRY};
+
+/// What is lent, in numbers; the loops in records.
+#[derive(Debug, Clone, Copy, PartialEq, Eq)]
+pub struct Lengths {
+    pub parcels: usize,
+    pub labels: usize,
+    pub jumps: usize,
+    pub loops: usize,
+}
+
+impl Lengths {
+    /// As much as these rows take, and this much more of each.
+    pub fn for_list(list: &List, more: usize) -> Self {
+        let needs = second::needs(&list.numbers, &list.names, &Limits::default());
+        Self {
+            parcels: needs.parcels + more,
+            labels: needs.labels * LABEL_ENTRY + more,
+            jumps: needs.jumps * JUMP_ENTRY + more,
+            loops: needs.loops + more,
+        }
+    }
+}
+
+#[derive(Debug, Clone)]
+pub struct Case {
+    pub list: List,
+    pub lengths: Lengths,
+}
+
+/// Numbers on both sides of a lent buffer, for writes that go astray. A loop table that is taken
+/// for four times its size stays inside them.
+const GUARD: usize = 256;
+
+/// A buffer between its guards, holding a number at each place that no other place near it holds
+/// and that isn't zero.
+pub struct Guarded<T> {
+    all: Vec<T>,
+}
+
+impl<T: Copy> Guarded<T> {
+    fn new(length: usize, pattern: fn(usize) -> T) -> Self {
+        let all = (0..length + 2 * GUARD).map(pattern).collect();
+        Self { all }
+    }
+
+    pub fn lent(&mut self) -> &mut [T] {
+        let end = self.all.len() - GUARD;
+        &mut self.all[GUARD..end]
+    }
+}
+
+fn small(place: usize) -> u16 {
+    (place as u16).wrapping_mul(0x9e37) | 1
+}
+
+fn large(place: usize) -> u32 {
+    (place as u32).wrapping_mul(0x9e37_79b9) | 1
+}
+
+fn record(place: usize) -> Record {
+    [0, 1, 2, 3].map(|number| large(4 * place + number))
+}
+
+/// The four lent buffers of a case.
+pub struct Buffers {
+    pub parcels: Guarded<u16>,
+    pub labels: Guarded<u32>,
+    pub jumps: Guarded<u32>,
+    pub loops: Guarded<Record>,
+}
+
+impl Buffers {
+    pub fn new(lengths: &Lengths) -> Self {
+        Self {
+            parcels: Guarded::new(lengths.parcels, small),
+            labels: Guarded::new(lengths.labels, large),
+            jumps: Guarded::new(lengths.jumps, large),
+            loops: Guarded::new(lengths.loops, record),
+        }
+    }
+
+    pub fn lent(&mut self) -> Lent<'_> {
+        Lent {
+            parcels: self.parcels.lent(),
+            labels: self.labels.lent(),
+            jumps: self.jumps.lent(),
+            loops: self.loops.lent(),
+        }
+    }
+
+    /// The first place that differs, counted from each buffer's start: guards before it are
+    /// negative.
+    pub fn difference(&self, port: &Self) -> Option<String> {
+        place("parcels", &self.parcels.all, &port.parcels.all)
+            .or_else(|| place("labels", &self.labels.all, &port.labels.all))
+            .or_else(|| place("jumps", &self.jumps.all, &port.jumps.all))
+            .or_else(|| place("loops", &self.loops.all, &port.loops.all))
+    }
+}
+
+fn place<T: PartialEq + std::fmt::Debug>(what: &str, second: &[T], port: &[T]) -> Option<String> {
+    if second == port {
+        return None;
+    }
+    let at = second.iter().zip(port).position(|(a, b)| a != b)?;
+    let from_start = at as i64 - GUARD as i64;
+    Some(format!("{what} {from_start}: {:?} expected, {:?} found", second[at], port[at]))
+}
+
+/// The second reading's answer, and what it leaves.
+pub fn second(case: &Case) -> (Told, Buffers) {
+    let mut buffers = Buffers::new(&case.lengths);
+    let List { numbers, names } = &case.list;
+    let told = second::build(numbers, names, &mut buffers.lent(), &Limits::default());
+    (told, buffers)
+}
+
+impl Case {
+    /// The rows as lines of numbers, equal neighbours once; the names; what is lent.
+    pub fn text(&self) -> String {
+        const SHOWN: usize = 100;
+        let rows: Vec<&Row> = self.list.rows().collect();
+        let mut text = String::new();
+        let mut number = 0;
+        for equal in rows.chunk_by(|a, b| a == b).take(SHOWN) {
+            text += &line(number, equal);
+            number += equal.len();
+        }
+        if number < rows.len() {
+            text += &format!("  and {} rows more\n", rows.len() - number);
+        }
+        text + &self.lent_text()
+    }
+
+    fn lent_text(&self) -> String {
+        let List { numbers, names: bytes } = &self.list;
+        let Lengths { parcels, labels, jumps, loops } = self.lengths;
+        let after = numbers.chunks_exact(WIDTH).remainder();
+        let after = if after.is_empty() { String::new() } else { format!(", the last {after:?}") };
+        format!(
+            "  numbers: {}{after}\n  names: {}\n  lent: {parcels} parcels, {labels} numbers for \
+             labels, {jumps} for jumps, {loops} loop records\n",
+            numbers.len(),
+            names(bytes),
+        )
+    }
+}
+
+/// The names in quotes; of long ones only the front.
+fn names(names: &[u8]) -> String {
+    const SHOWN: usize = 200;
+    let front = &names[..names.len().min(SHOWN)];
+    let rest = if names.len() > SHOWN { " and so on" } else { "" };
+    format!("{} bytes, \"{}\"{rest}", names.len(), front.escape_ascii())
+}
+
+fn line(number: usize, equal: &[&Row]) -> String {
+    let times = match equal.len() {
+        1 => String::new(),
+        times => format!(" ({times} times)"),
+    };
+    format!("  row {number}{times}:\t{}\n", row::write(equal[0]))
+}

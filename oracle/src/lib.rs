@@ -1,0 +1,21 @@
+//! The unchanged `qc_asm` as oracle of the port: rows and lists in document 01's shape go in,
+//! parcels, counts and refusals in document 01's numbers come out.
+
+pub mod cases;
+pub mod every_row;
+pub mod huge;
+pub mod judge;
+#[cfg(feature = "linked")]
+pub mod linked;
+pub mod list;
+pub mod lists;
+pub mod one;
+pub mod random;
+pub mod reading;
+pub mod refusal;
+pub mod row;
+pub mod rows;
+pub mod sample_lists;
+pub mod sample_rows;
+pub mod second;
+pub mod shrink;
