@@ -37,7 +37,16 @@ pub fn settle(condition: Condition, p: usize, q: u32, parcels: &mut [u16]) -> Ve
 }
 
 // The jump at place p to a name: 12 before 9, or its word stands there.
-pub fn aim_one(condition: Condition, start: u32, len: u32, names: &[u8], parcels: &mut [u16], labels: &[u32], n: usize, p: usize) -> Verdict
+pub fn aim_one(
+    condition: Condition,
+    start: u32,
+    len: u32,
+    names: &[u8],
+    parcels: &mut [u16],
+    labels: &[u32],
+    n: usize,
+    p: usize,
+) -> Verdict
     requires { ⌜ (AimFine (now names) (now labels) n p (length (now parcels))) × (start + len ≤ length (now names)) ⌝ }
     ensures { λ r. ⌜ (r ≡ aimChk condition p start len (lookup (now (names .entry)) (now (labels .entry)) start len n 0)) × (now (parcels .exit) ≡ ifGood r (aimed condition p (lookup (now (names .entry)) (now (labels .entry)) start len n 0) (now (parcels .entry))) (now (parcels .entry))) ⌝ }
 {
@@ -49,21 +58,42 @@ pub fn aim_one(condition: Condition, start: u32, len: u32, names: &[u8], parcels
 }
 
 // The item of a waiting jump's row at place p.
-pub fn aim_item(it: Item, names: &[u8], parcels: &mut [u16], labels: &[u32], n: usize, p: usize) -> Verdict
+pub fn aim_item(
+    it: Item,
+    names: &[u8],
+    parcels: &mut [u16],
+    labels: &[u32],
+    n: usize,
+    p: usize,
+) -> Verdict
     requires { ⌜ (AimFine (now names) (now labels) n p (length (now parcels))) × ItemFine (now names) it ⌝ }
     ensures { λ r. ⌜ (r ≡ itemChk (now (names .entry)) (now (labels .entry)) n p it) × (now (parcels .exit) ≡ ifGood r (itemAimed (now (names .entry)) (now (labels .entry)) n p it (now (parcels .entry))) (now (parcels .entry))) ⌝ }
 {
     match it {
         Item::Instruction(_) => Verdict::Good,
-        Item::Label { start: _, length: _ } => Verdict::Good,
-        Item::Jump { condition, start, length } => aim_one(condition, start, length, names, parcels, labels, n, p),
+        Item::Label {
+            start: _,
+            length: _,
+        } => Verdict::Good,
+        Item::Jump {
+            condition,
+            start,
+            length,
+        } => aim_one(condition, start, length, names, parcels, labels, n, p),
         Item::LoopBegin { count: _, mode: _ } => Verdict::Good,
         Item::LoopEnd => Verdict::Good,
     }
 }
 
 // What was read of a waiting jump's row at place p.
-pub fn aim_row(read: Read, names: &[u8], parcels: &mut [u16], labels: &[u32], n: usize, p: usize) -> Verdict
+pub fn aim_row(
+    read: Read,
+    names: &[u8],
+    parcels: &mut [u16],
+    labels: &[u32],
+    n: usize,
+    p: usize,
+) -> Verdict
     requires { ⌜ (AimFine (now names) (now labels) n p (length (now parcels))) × ReadFine (now names) read ⌝ }
     ensures { λ r. ⌜ (r ≡ readChk (now (names .entry)) (now (labels .entry)) n p read) × (now (parcels .exit) ≡ ifGood r (readAimed (now (names .entry)) (now (labels .entry)) n p read (now (parcels .entry))) (now (parcels .entry))) ⌝ }
 {
@@ -74,7 +104,15 @@ pub fn aim_row(read: Read, names: &[u8], parcels: &mut [u16], labels: &[u32], n:
 }
 
 // The waiting jumps in turn, up to the first that is refused.
-pub fn aim_all(rows: &[u32], names: &[u8], parcels: &mut [u16], labels: &[u32], n: usize, jumps: &[u32], count: usize) -> Verdict
+pub fn aim_all(
+    rows: &[u32],
+    names: &[u8],
+    parcels: &mut [u16],
+    labels: &[u32],
+    n: usize,
+    jumps: &[u32],
+    count: usize,
+) -> Verdict
     requires { ⌜ AimsFine (now names) (now labels) n (now jumps) (rowsIn (now rows)) count (length (now parcels)) ⌝ }
     ensures { λ r. ⌜ Came (waitChk (now (names .entry)) (rowAt (now (rows .entry)) (now (names .entry))) (now (labels .entry)) n (now (jumps .entry))) (waited (now (names .entry)) (rowAt (now (rows .entry)) (now (names .entry))) (now (labels .entry)) n (now (jumps .entry))) (now (parcels .entry)) count r (now (parcels .exit)) ⌝ }
 {

@@ -19,7 +19,15 @@ use refusals::Refusal;
 use refusals::Verdict;
 
 // The rows in turn, up to the first that is refused.
-pub fn take_rows(rows: &[u32], names: &[u8], rooms: Rooms, parcels: &mut [u16], labels: &mut [u32], jumps: &mut [u32], loops: &mut [u32]) -> Pass
+pub fn take_rows(
+    rows: &[u32],
+    names: &[u8],
+    rooms: Rooms,
+    parcels: &mut [u16],
+    labels: &mut [u32],
+    jumps: &mut [u32],
+    loops: &mut [u32],
+) -> Pass
     requires { ⌜ (rowsIn (now rows) ≤ 4194304) × Rooming rooms (length (now parcels)) (length (now labels)) (length (now jumps)) (length (now loops)) ⌝ }
     ensures { λ r. ⌜ Passed (now (names .entry)) rooms (rowAt (now (rows .entry)) (now (names .entry))) (rowsIn (now (rows .entry))) (memOf zeroState (now (parcels .entry)) (now (labels .entry)) (now (jumps .entry)) (now (loops .entry))) r (now (parcels .exit)) (now (labels .exit)) (now (jumps .exit)) (now (loops .exit)) ⌝ }
 {
@@ -43,14 +51,30 @@ pub fn take_rows(rows: &[u32], names: &[u8], rooms: Rooms, parcels: &mut [u16], 
 }
 
 // Once all rows are taken in: 23, then the waiting jumps in item order; a refusal leaves zeros in what the rows took.
-pub fn finish(state: State, rows: &[u32], names: &[u8], parcels: &mut [u16], labels: &mut [u32], jumps: &mut [u32], loops: &mut [u32]) -> Answer
+pub fn finish(
+    state: State,
+    rows: &[u32],
+    names: &[u8],
+    parcels: &mut [u16],
+    labels: &mut [u32],
+    jumps: &mut [u32],
+    loops: &mut [u32],
+) -> Answer
     requires { ⌜ (Used state (length (now parcels)) (length (now labels)) (length (now jumps)) (length (now loops))) × AimsFine (now names) (now labels) (state .labels) (now jumps) (rowsIn (now rows)) (state .jumps) (length (now parcels)) ⌝ }
     ensures { λ r. ⌜ Left (finish (now (names .entry)) (rowAt (now (rows .entry)) (now (names .entry))) (Pass.Done state) (memOf state (now (parcels .entry)) (now (labels .entry)) (now (jumps .entry)) (now (loops .entry)))) r (now (parcels .exit)) (now (labels .exit)) (now (jumps .exit)) (now (loops .exit)) ⌝ }
 {
     if 0 < state.depth {
         return wipes::refused(Refusal::UnclosedLoop, state, parcels, labels, jumps, loops);
     }
-    let aims = jumps::aim_all(rows, names, parcels, labels, state.labels, jumps, state.jumps);
+    let aims = jumps::aim_all(
+        rows,
+        names,
+        parcels,
+        labels,
+        state.labels,
+        jumps,
+        state.jumps,
+    );
     match aims {
         Verdict::Refused(r) => wipes::refused(r, state, parcels, labels, jumps, loops),
         Verdict::Good => Answer::Accepted(state.at as u32),
@@ -59,7 +83,14 @@ pub fn finish(state: State, rows: &[u32], names: &[u8], parcels: &mut [u16], lab
 
 // Builds the rows: the answer, and in the lent buffers the parcels, label entries and waiting jumps of a valid list, or
 // zeros in what the rows before a refusal took.
-pub fn build(rows: &[u32], names: &[u8], parcels: &mut [u16], labels: &mut [u32], jumps: &mut [u32], loops: &mut [u32]) -> Answer
+pub fn build(
+    rows: &[u32],
+    names: &[u8],
+    parcels: &mut [u16],
+    labels: &mut [u32],
+    jumps: &mut [u32],
+    loops: &mut [u32],
+) -> Answer
     ensures { λ r. ⌜ Left (buildOf (now (rows .entry)) (now (names .entry)) (now (parcels .entry)) (now (labels .entry)) (now (jumps .entry)) (now (loops .entry))) r (now (parcels .exit)) (now (labels .exit)) (now (jumps .exit)) (now (loops .exit)) ⌝ }
 {
     if !rows::well_formed(rows) {

@@ -31,6 +31,6 @@ module _ (v : VisaInstruction) {e : Encoded} (is : e ≡ encodedOf v) where
 
   module _ (s : State) (r : Rooms) {b : Bool} {x : Verdict} (branch : b ≡ isBranch v)
       (found : x ≡ first (when (b && ltb 0 (s .depth)) BranchInLoop ∷ e .verdict ∷ when (ltb (r .parcels) (s .at + e .count)) (NoRoomForParcels (r .parcels)) ∷ []))
-      where
-    pub checked : x ≡ instructionChk s r v
-    checked = rw (is, branch) at found
+    where
+      pub checked : x ≡ instructionChk s r v
+      checked = rw (is, branch) at found

@@ -6,12 +6,13 @@ pub mod tables;
 ghost use mathlib.Core.Path.{_≡_};
 ghost use mathlib.Core.Bool.{_&&_};
 ghost use mathlib.Core.List.{[], _∷_};
-ghost use Prim.Native.Nat.{_+_, _*_, _≤_, _<_};
+ghost use Prim.Native.Nat.{_+_, _-_, _*_, _≤_, _<_};
 ghost use lib.ListN.{length};
 ghost use lib.Dec.{ltb};
+ghost use lib.Seq.{sets};
 ghost use Rattle.refusals.specs.declared.Refusal.the-variants.{BranchInLoop, NoRoomForParcels};
-ghost use Rattle.places.specs.Build.{when, first};
-ghost use Rattle.machine.specs.Machine.{advanced, deeper, tailShort, topForm, labelChk, jumpChk, beginChk, endChk, Instructed, Labelled, Jumped, Begun, Ended, Entries, Starts, Within, GoodFor, ItemFine, ReadFine, memOf, Stepped};
+ghost use Rattle.places.specs.Build.{when, first, settled};
+ghost use Rattle.machine.specs.Machine.{advanced, endNext, deeper, tailShort, topPlace, topForm, labelChk, jumpChk, beginChk, endChk, Instructed, Labelled, Jumped, Begun, Ended, Entries, Starts, Within, GoodFor, ItemFine, ReadFine, memOf, Stepped};
 ghost use Rattle.machine.specs.Fold.{zeroState};
 use encode::Form;
 use items::Item;
@@ -23,19 +24,23 @@ use refusals::Refusal;
 use refusals::Verdict;
 use rows::Read;
 
-// Where a build stands: the next parcel, the label entries, waiting jumps and loop records in use, the deepest nesting,
-// the instruction entries; the last one's place; the latest that does not take three parcels, counted from 1, and its
-// place; and the entries before the latest loop end.
+// Where a build stands.
 pub struct State {
+    // The next parcel.
     pub at: usize,
+    // The label entries and the waiting jumps.
     pub labels: usize,
     pub jumps: usize,
+    // The open loops, and the most that were open at once.
     pub depth: usize,
     pub deepest: usize,
+    // The instruction entries, and the place of the last one.
     pub count: usize,
     pub last: usize,
+    // The latest entry that does not take three parcels: its number from 1, 0 if there is none, and its place.
     pub short: usize,
     pub shortat: usize,
+    // The entries before the latest loop end.
     pub ended: usize,
 }
 
@@ -139,7 +144,13 @@ impl State {
     }
 
     // What an instruction of n parcels is refused for: a branch in a loop, its encoding, the room.
-    pub fn instruction_check(self, rooms: Rooms, branch: bool, encodes: Verdict, n: usize) -> Verdict
+    pub fn instruction_check(
+        self,
+        rooms: Rooms,
+        branch: bool,
+        encodes: Verdict,
+        n: usize,
+    ) -> Verdict
         requires { ⌜ (self .at ≤ 16777216) × (rooms .parcels ≤ 16777216) × (n ≤ 6) ⌝ }
         ensures { λ r. ⌜ r ≡ first (when (branch && ltb 0 (self .depth)) BranchInLoop ∷ encodes ∷ when (ltb (rooms .parcels) (self .at + n)) (NoRoomForParcels (rooms .parcels)) ∷ []) ⌝ }
     {
@@ -173,7 +184,14 @@ impl State {
     }
 
     // What a label is refused for: a loop around it, the same name before it, the room.
-    pub fn label_check(self, rooms: Rooms, names: &[u8], labels: &[u32], start: u32, len: u32) -> Verdict
+    pub fn label_check(
+        self,
+        rooms: Rooms,
+        names: &[u8],
+        labels: &[u32],
+        start: u32,
+        len: u32,
+    ) -> Verdict
         requires { ⌜ (self .labels ≤ rooms .labels) × (rooms .labels ≤ 4096) × (3 * rooms .labels ≤ length (now labels)) × (start + len ≤ length (now names)) × Entries (now names) (now labels) (self .labels) ⌝ }
         ensures { λ r. ⌜ r ≡ labelChk (now (names .entry)) self rooms (now (labels .entry)) start len ⌝ }
     {
@@ -196,7 +214,14 @@ impl State {
     }
 
     // A label: its name's range and its place stand in the next label entry.
-    pub fn label(mut self, rooms: Rooms, names: &[u8], labels: &mut [u32], start: u32, len: u32) -> Step
+    pub fn label(
+        mut self,
+        rooms: Rooms,
+        names: &[u8],
+        labels: &mut [u32],
+        start: u32,
+        len: u32,
+    ) -> Step
         requires { ⌜ (Within self rooms) × (rooms .parcels ≤ 16777216) × (rooms .labels ≤ 4096) × (3 * rooms .labels ≤ length (now labels)) × (start + len ≤ length (now names)) × Entries (now names) (now labels) (self .labels) ⌝ }
         ensures { λ r. ⌜ Labelled (now (names .entry)) self rooms (now (labels .entry)) start len r (now (labels .exit)) ⌝ }
     {
@@ -263,7 +288,14 @@ impl State {
 
     // A loop start: three zeros wait for its word, and the next loop record holds its place, its first body entry, its
     // count and its mode.
-    pub fn loop_begin(self, rooms: Rooms, count: LoopCount, mode: LoopMode, parcels: &mut [u16], loops: &mut [u32]) -> Step
+    pub fn loop_begin(
+        self,
+        rooms: Rooms,
+        count: LoopCount,
+        mode: LoopMode,
+        parcels: &mut [u16],
+        loops: &mut [u32],
+    ) -> Step
         requires { ⌜ (Within self rooms) × (rooms .parcels ≤ length (now parcels)) × (rooms .parcels ≤ 16777216) × (rooms .loops ≤ 64) × (4 * rooms .loops ≤ length (now loops)) ⌝ }
         ensures { λ r. ⌜ Begun self rooms count mode (now (parcels .entry)) (now (loops .entry)) r (now (parcels .exit)) (now (loops .exit)) ⌝ }
     {
@@ -278,7 +310,17 @@ impl State {
         let d = self.depth;
         let mut next = self.advance(3);
         tables::mend(parcels, at, [0; 3]);
-        tables::store(loops, 4 * d, [at as u32, next.count as u32, records::count_number(count), records::mode_number(mode)], 4);
+        tables::store(
+            loops,
+            4 * d,
+            [
+                at as u32,
+                next.count as u32,
+                records::count_number(count),
+                records::mode_number(mode),
+            ],
+            4,
+        );
         next.depth = d + 1;
         next.deepest = larger(d, self.deepest);
         Step::On(next)
@@ -319,43 +361,72 @@ impl State {
         records::form_verdict(self.top_form(loops))
     }
 
-    // A loop end: the start's word stands at its place, and the loop record is zero.
-    pub fn loop_end(mut self, parcels: &mut [u16], loops: &mut [u32]) -> Step
-        requires { ⌜ (self .at ≤ length (now parcels)) × (4 * self .depth ≤ length (now loops)) × (self .last ≤ 16777216) × (self .short ≤ 16777216) × (self .shortat ≤ 16777216) × Starts self (now loops) ⌝ }
-        ensures { λ r. ⌜ Ended self (now (parcels .entry)) (now (loops .entry)) r (now (parcels .exit)) (now (loops .exit)) ⌝ }
+    // The innermost open loop ends here: its start's word stands at its place, and its record is zero.
+    pub fn close(mut self, parcels: &mut [u16], loops: &mut [u32]) -> State
+        requires { ⌜ (0 < self .depth) × (4 * self .depth ≤ length (now loops)) × (topPlace self (now loops) + 3 ≤ length (now parcels)) × (self .last ≤ 16777216) ⌝ }
+        ensures { λ r. ⌜ (r ≡ endNext self) × (now (parcels .exit) ≡ sets (now (parcels .entry)) (topPlace self (now (loops .entry))) (settled (topForm self (now (loops .entry))))) × (now (loops .exit) ≡ sets (now (loops .entry)) (4 * self .depth - 4) (0 ∷ 0 ∷ 0 ∷ 0 ∷ [])) ⌝ }
     {
-        let k = self.end_check(loops);
-        match k {
-            Verdict::Refused(r) => {
-                return Step::Stop(r);
-            }
-            Verdict::Good => {}
-        }
         let d = self.depth;
         let place = tables::wide(loops[4 * d - 4]);
         tables::mend(parcels, place, records::settled(self.top_form(loops)));
         tables::store(loops, 4 * d - 4, [0; 4], 4);
         self.depth = d - 1;
         self.ended = self.count;
-        Step::On(self)
+        self
+    }
+
+    // A loop end: the innermost open loop ends here.
+    pub fn loop_end(self, parcels: &mut [u16], loops: &mut [u32]) -> Step
+        requires { ⌜ (self .at ≤ length (now parcels)) × (4 * self .depth ≤ length (now loops)) × (self .last ≤ 16777216) × (self .short ≤ 16777216) × (self .shortat ≤ 16777216) × Starts self (now loops) ⌝ }
+        ensures { λ r. ⌜ Ended self (now (parcels .entry)) (now (loops .entry)) r (now (parcels .exit)) (now (loops .exit)) ⌝ }
+    {
+        let k = self.end_check(loops);
+        match k {
+            Verdict::Refused(r) => Step::Stop(r),
+            Verdict::Good => Step::On(self.close(parcels, loops)),
+        }
     }
 
     // An item of a row: what its method makes of the state and the buffers.
-    pub fn item(self, rooms: Rooms, it: Item, row: u32, names: &[u8], parcels: &mut [u16], labels: &mut [u32], jumps: &mut [u32], loops: &mut [u32]) -> Step
+    pub fn item(
+        self,
+        rooms: Rooms,
+        it: Item,
+        row: u32,
+        names: &[u8],
+        parcels: &mut [u16],
+        labels: &mut [u32],
+        jumps: &mut [u32],
+        loops: &mut [u32],
+    ) -> Step
         requires { ⌜ (GoodFor (now names) rooms (memOf self (now parcels) (now labels) (now jumps) (now loops))) × ItemFine (now names) it ⌝ }
         ensures { λ r. ⌜ Stepped (now (names .entry)) rooms (Read.Item it) row (memOf self (now (parcels .entry)) (now (labels .entry)) (now (jumps .entry)) (now (loops .entry))) r (now (parcels .exit)) (now (labels .exit)) (now (jumps .exit)) (now (loops .exit)) ⌝ }
     {
         match it {
             Item::Instruction(v) => self.instruction(rooms, v, parcels),
             Item::Label { start, length } => self.label(rooms, names, labels, start, length),
-            Item::Jump { condition: _, start: _, length: _ } => self.jump(rooms, row, parcels, jumps),
+            Item::Jump {
+                condition: _,
+                start: _,
+                length: _,
+            } => self.jump(rooms, row, parcels, jumps),
             Item::LoopBegin { count, mode } => self.loop_begin(rooms, count, mode, parcels, loops),
             Item::LoopEnd => self.loop_end(parcels, loops),
         }
     }
 
     // What was read of a row: its item's step, or the row's refusal.
-    pub fn step(self, rooms: Rooms, read: Read, row: u32, names: &[u8], parcels: &mut [u16], labels: &mut [u32], jumps: &mut [u32], loops: &mut [u32]) -> Step
+    pub fn step(
+        self,
+        rooms: Rooms,
+        read: Read,
+        row: u32,
+        names: &[u8],
+        parcels: &mut [u16],
+        labels: &mut [u32],
+        jumps: &mut [u32],
+        loops: &mut [u32],
+    ) -> Step
         requires { ⌜ (GoodFor (now names) rooms (memOf self (now parcels) (now labels) (now jumps) (now loops))) × ReadFine (now names) read ⌝ }
         ensures { λ r. ⌜ Stepped (now (names .entry)) rooms read row (memOf self (now (parcels .entry)) (now (labels .entry)) (now (jumps .entry)) (now (loops .entry))) r (now (parcels .exit)) (now (labels .exit)) (now (jumps .exit)) (now (loops .exit)) ⌝ }
     {

@@ -1,90 +1,67 @@
-use borrow.Author.Tests.{lt-ltb, le-ltb}
+-- By the test of the nesting, then by what the waiting jumps come to.
 use mathlib.Core.Path.{refl, sym, _∙_}
+use borrow.Author.Tests.{lt-ltb, le-ltb}
 use borrow.Author.Needs.{needs}
 use Rattle.build.proofs.finish.Statement.{statement}
 use Rattle.build.proofs.finish.Tie as tie
-use Rattle.build.proofs.finish.Reads as reads
-use Rattle.build.proofs.finish.Lts as lts
-use Rattle.build.proofs.jumps.aim_all.Reads as aim-all-reads
-use Rattle.build.proofs.wipes.refused.Reads as refused-reads
 
--- src/lib.rt:52:9
 refused-requires : tie.Need-refused-requires
 refused-requires c κs = search needs
 
--- src/lib.rt:52:9
 same-length : tie.Need-same-length
 same-length c = search needs
 
--- src/lib.rt:52:9
 same-length-2 : tie.Need-same-length-2
 same-length-2 c = search needs
 
--- src/lib.rt:52:9
 same-length-3 : tie.Need-same-length-3
 same-length-3 c = search needs
 
--- src/lib.rt:52:9
 same-length-4 : tie.Need-same-length-4
 same-length-4 c = search needs
 
--- src/lib.rt:52:9
 returns : tie.Need-returns
 returns c = rw (lt-ltb _ _ (c .before .before .before .before .before .before .before .before .before .before .before .before .before .if1 .taken)) (c .before .before .before .before .before .before .before .before .refused .ensures)
 
--- src/lib.rt:54:9
 aim-all-requires : tie.Need-aim-all-requires
 aim-all-requires c κs = search needs
 
--- src/lib.rt:56:26
 enum-known-aims : tie.Need-enum-known-aims
 enum-known-aims c = search needs
 
--- src/lib.rt:56:32
 refused-requires-2 : tie.Need-refused-requires-2
 refused-requires-2 c κs = search needs
 
--- src/lib.rt:57:43
 enum-told : tie.Need-enum-told
 enum-told c = search needs
 
--- src/lib.rt:57:43
 cast-t35 : tie.Need-cast-t35
 cast-t35 c = search needs
 
--- src/lib.rt:47:1
 same-length-5 : tie.Need-same-length-5
 same-length-5 c = search needs
 
--- src/lib.rt:47:1
 same-length-6 : tie.Need-same-length-6
 same-length-6 c = search needs
 
--- src/lib.rt:47:1
 same-length-7 : tie.Need-same-length-7
 same-length-7 c = search needs
 
--- src/lib.rt:47:1
 same-length-8 : tie.Need-same-length-8
 same-length-8 c = search needs
 
--- src/lib.rt:47:1
 returns-2 : tie.Need-returns-2
 returns-2 c = rw (le-ltb _ _ (c .before .before .before .before .before .before .before .before .before .before .before .before .before .before .before .before .before .before .before .before .before .before .if1 .left), sym (c .before .before .before .before .before .before .before .before .before .before .before .before .before .before .before .before .before .before .aim-all .ensures .outcome) ∙ c .before .before .before .before .before .before .before .before .before .before .before .before .before .before .aims .given .1, ← c .before .before .before .before .before .before .before .before .before .before .before .before .before .before .before .before .before .before .aim-all .ensures .here) (c .before .before .before .before .before .before .before .before .refused2 .ensures)
 
--- src/lib.rt:47:1
 same-length-9 : tie.Need-same-length-9
 same-length-9 c = search needs
 
--- src/lib.rt:47:1
 same-length-10 : tie.Need-same-length-10
 same-length-10 c = search needs
 
--- src/lib.rt:47:1
 same-length-11 : tie.Need-same-length-11
 same-length-11 c = search needs
 
--- src/lib.rt:47:1
 returns-3 : tie.Need-returns-3
 returns-3 c = rw (le-ltb _ _ (c .before .before .before .before .before .before .before .before .before .if1 .left), sym (c .before .before .before .before .before .aim-all .ensures .outcome) ∙ c .before .enum-told .given .1) (record { answer = refl; parcels = c .before .before .before .before .before .aim-all .ensures .here; labels = refl; jumps = refl; loops = refl })
 

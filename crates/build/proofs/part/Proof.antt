@@ -1,46 +1,36 @@
+-- By the test: the range has its own length.
+use mathlib.Core.Path.{_≡_}
 use Prim.Native.Nat.{_+_, _-_}
 use native.Mathlib.Omega.{arith}
-use mathlib.Core.Path.{_≡_}
 use borrow.Author.Tests.{le-leb, lt-leb}
 use borrow.Author.Needs.{needs}
 use Rattle.build.proofs.part.Statement.{statement}
 use Rattle.build.proofs.part.Tie as tie
-use Rattle.build.proofs.part.Reads as reads
-use Rattle.build.proofs.part.Lts as lts
 
--- src/lib.rt:82:15
 add-end : tie.Need-add-end
 add-end c = search needs
 
--- src/lib.rt:84:9
 sub-result : tie.Need-sub-result
 sub-result c = search needs
 
--- src/lib.rt:84:9
 part-result-start : tie.Need-part-result-start
 part-result-start c = search needs
 
--- src/lib.rt:84:9
 part-result-end : tie.Need-part-result-end
 part-result-end c = search needs
 
--- src/lib.rt:86:9
 sub-result-2 : tie.Need-sub-result-2
 sub-result-2 c = search needs
 
--- src/lib.rt:86:9
 part-result-start-2 : tie.Need-part-result-start-2
 part-result-start-2 c = search needs
 
--- src/lib.rt:86:9
 part-result-end-2 : tie.Need-part-result-end-2
 part-result-end-2 c = search needs
 
--- src/lib.rt:78:1
 returns : tie.Need-returns
 returns c = let e : c .before .before .args .start + c .before .before .args .len - c .before .before .args .start ≡ c .before .before .args .len = omega arith in rw (le-leb _ _ (c .before .if1 .taken), e)
 
--- src/lib.rt:78:1
 returns-2 : tie.Need-returns-2
 returns-2 c = rw (lt-leb _ _ (c .before .if1 .left))
 

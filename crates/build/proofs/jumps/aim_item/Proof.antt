@@ -1,55 +1,41 @@
+-- By cases: only a jump waits.
 use borrow.Author.Needs.{needs}
 use Rattle.build.proofs.jumps.aim_item.Statement.{statement}
 use Rattle.build.proofs.jumps.aim_item.Tie as tie
-use Rattle.build.proofs.jumps.aim_item.Reads as reads
-use Rattle.build.proofs.jumps.aim_item.Lts as lts
-use Rattle.build.proofs.jumps.aim_one.Reads as aim-one-reads
 
--- src/jumps.rt:57:33
 enum-told : tie.Need-enum-told
 enum-told c = search needs
 
--- src/jumps.rt:58:48
 enum-told-2 : tie.Need-enum-told-2
 enum-told-2 c = search needs
 
--- src/jumps.rt:59:22
 enum-known-it : tie.Need-enum-known-it
 enum-known-it c = search needs
 
--- src/jumps.rt:59:52
 aim-one-requires : tie.Need-aim-one-requires
 aim-one-requires c κs = (c .before .before .before .before .before .before .before .pre .0, rw (c .before .before .it .given .1) at (c .before .before .before .before .before .before .before .pre .1))
 
--- src/jumps.rt:60:50
 enum-told-3 : tie.Need-enum-told-3
 enum-told-3 c = search needs
 
--- src/jumps.rt:61:26
 enum-told-4 : tie.Need-enum-told-4
 enum-told-4 c = search needs
 
--- src/jumps.rt:52:1
 returns : tie.Need-returns
 returns c = search needs
 
--- src/jumps.rt:52:1
 returns-2 : tie.Need-returns-2
 returns-2 c = search needs
 
--- src/jumps.rt:52:1
 same-length : tie.Need-same-length
 same-length c = search needs
 
--- src/jumps.rt:52:1
 returns-3 : tie.Need-returns-3
 returns-3 c = rw (c .before .before .before .before .before .it .given .1) (c .before .before .aim-one .ensures)
 
--- src/jumps.rt:52:1
 returns-4 : tie.Need-returns-4
 returns-4 c = search needs
 
--- src/jumps.rt:52:1
 returns-5 : tie.Need-returns-5
 returns-5 c = search needs
 

@@ -1,31 +1,23 @@
+-- By cases.
 use borrow.Author.Needs.{needs}
 use Rattle.build.proofs.jumps.aim_row.Statement.{statement}
 use Rattle.build.proofs.jumps.aim_row.Tie as tie
-use Rattle.build.proofs.jumps.aim_row.Reads as reads
-use Rattle.build.proofs.jumps.aim_row.Lts as lts
-use Rattle.build.proofs.jumps.aim_item.Reads as aim-item-reads
 
--- src/jumps.rt:71:20
 enum-known-read : tie.Need-enum-known-read
 enum-known-read c = search needs
 
--- src/jumps.rt:71:27
 aim-item-requires : tie.Need-aim-item-requires
 aim-item-requires c κs = (c .before .before .before .before .before .before .before .pre .0, rw (c .before .before .read .given .1) at (c .before .before .before .before .before .before .before .pre .1))
 
--- src/jumps.rt:72:29
 enum-told : tie.Need-enum-told
 enum-told c = search needs
 
--- src/jumps.rt:66:1
 same-length : tie.Need-same-length
 same-length c = search needs
 
--- src/jumps.rt:66:1
 returns : tie.Need-returns
 returns c = rw (c .before .before .before .before .before .read .given .1) (c .before .before .aim-item .ensures)
 
--- src/jumps.rt:66:1
 returns-2 : tie.Need-returns-2
 returns-2 c = search needs
 

@@ -1,44 +1,34 @@
+-- The tests in order, with what the search finds between them.
 use mathlib.Core.Path.{sym, _∙_}
-use borrow.Author.Tests.{lt-ltb, le-ltb, eq-eqb, ne-eqb}
+use borrow.Author.Tests.{lt-ltb, le-ltb}
 use borrow.Author.Needs.{needs}
 use Rattle.machine.proofs.State.label_check.Statement.{statement}
 use Rattle.machine.proofs.State.label_check.Tie as tie
-use Rattle.machine.proofs.State.label_check.Reads as reads
-use Rattle.machine.proofs.State.label_check.Lts as lts
-use Rattle.machine.proofs.names.find.Reads as find-reads
 
--- src/lib.rt:150:13
 returns : tie.Need-returns
 returns c = rw (lt-ltb _ _ (c .if1 .taken))
 
--- src/lib.rt:153:13
 find-requires : tie.Need-find-requires
 find-requires c κs = search needs
 
--- src/lib.rt:156:41
 enum-told : tie.Need-enum-told
 enum-told c = search needs
 
--- src/lib.rt:156:17
 returns-2 : tie.Need-returns-2
 returns-2 c = rw (le-ltb _ _ (c .before .before .before .if1 .left), sym (c .before .before .find .ensures) ∙ c .enum-told .given .1)
 
 enum-told-2 : tie.Need-enum-told-2
 enum-told-2 c = search needs
 
--- src/lib.rt:161:19
 add-if2 : tie.Need-add-if2
 add-if2 c = search needs
 
--- src/lib.rt:162:62
 cast-t15 : tie.Need-cast-t15
 cast-t15 c = search needs
 
--- src/lib.rt:162:13
 returns-3 : tie.Need-returns-3
 returns-3 c = rw (le-ltb _ _ (c .before .before .before .before .if1 .left), sym (c .before .before .before .find .ensures) ∙ c .before .enum-told2 .given .1, lt-ltb _ _ (c .if2 .taken))
 
--- src/lib.rt:145:5
 returns-4 : tie.Need-returns-4
 returns-4 c = rw (le-ltb _ _ (c .before .before .before .before .if1 .left), sym (c .before .before .before .find .ensures) ∙ c .before .enum-told2 .given .1, le-ltb _ _ (c .if2 .left))
 

@@ -1,88 +1,63 @@
-use borrow.Author.Needs.{sfits-of}
-use mir.Facts.{toZ-ofZ}
+-- The record's four numbers, and the offset as it stands.
 use Prim.Native.Nat.{_*_, _-_}
 use native.Mathlib.Omega.{arith}
+use mir.Facts.{toZ-ofZ}
+use borrow.Author.Needs.{sfits-of, needs}
 use Rattle.machine.specs.Machine.{topForm}
-use borrow.Author.Needs.{needs}
 use Rattle.machine.proofs.State.top_form.Statement.{statement}
 use Rattle.machine.proofs.State.top_form.Tie as tie
-use Rattle.machine.proofs.State.top_form.Reads as reads
-use Rattle.machine.proofs.State.top_form.Lts as lts
-use Rattle.encode.proofs.loop_form.Reads as loop-form-reads
-use Rattle.machine.proofs.records.count_from.Reads as count-from-reads
-use Rattle.machine.proofs.records.mode_from.Reads as mode-from-reads
-use Rattle.machine.proofs.tables.wide.Reads as wide-reads
-use Rattle.signs.proofs.apart.Reads as apart-reads
 
--- src/lib.rt:262:40
 mul-wide : tie.Need-mul-wide
 mul-wide c = search needs
 
--- src/lib.rt:262:40
 sub-wide : tie.Need-sub-wide
 sub-wide c = search needs
 
--- src/lib.rt:262:34
 mul-wide-2 : tie.Need-mul-wide-2
 mul-wide-2 c = search needs
 
--- src/lib.rt:262:34
 shared-slice-read-wide : tie.Need-shared-slice-read-wide
 shared-slice-read-wide c = search needs
 
--- src/lib.rt:262:13
 wide-requires : tie.Need-wide-requires
 wide-requires c κs = search needs
 
--- src/lib.rt:263:47
 mul-count-from : tie.Need-mul-count-from
 mul-count-from c = search needs
 
--- src/lib.rt:263:47
 sub-count-from : tie.Need-sub-count-from
 sub-count-from c = search needs
 
--- src/lib.rt:263:41
 mul-count-from-2 : tie.Need-mul-count-from-2
 mul-count-from-2 c = search needs
 
--- src/lib.rt:263:41
 shared-slice-read-count-from : tie.Need-shared-slice-read-count-from
 shared-slice-read-count-from c = search needs
 
--- src/lib.rt:263:13
 count-from-requires : tie.Need-count-from-requires
 count-from-requires c κs = search needs
 
--- src/lib.rt:264:45
 mul-mode-from : tie.Need-mul-mode-from
 mul-mode-from c = search needs
 
--- src/lib.rt:264:45
 sub-mode-from : tie.Need-sub-mode-from
 sub-mode-from c = search needs
 
--- src/lib.rt:264:39
 mul-mode-from-2 : tie.Need-mul-mode-from-2
 mul-mode-from-2 c = search needs
 
--- src/lib.rt:264:39
 shared-slice-read-mode-from : tie.Need-shared-slice-read-mode-from
 shared-slice-read-mode-from c = search needs
 
--- src/lib.rt:264:13
 mode-from-requires : tie.Need-mode-from-requires
 mode-from-requires c κs = search needs
 
--- src/lib.rt:265:40
 apart-requires : tie.Need-apart-requires
 apart-requires c κs = omega (arith, c .before .before .before .before .wide .ensures, c .before .before .before .before .before .before .shared-slice-known .given (4 * c .before .before .before .before .before .before .before .args .self .depth - 4))
 
--- src/lib.rt:265:9
 loop-form-requires : tie.Need-loop-form-requires
 loop-form-requires c κs = search needs
 
--- src/lib.rt:257:5
 returns : tie.Need-returns
 unfolding topForm
 returns c = rw (c .loop-form .ensures, c .before .before .before .before .count-from .ensures, c .before .before .mode-from .ensures, toZ-ofZ (sfits-of (c .before .apart .ok)), c .before .apart .ensures, c .before .before .before .before .before .before .wide .ensures)

@@ -1,15 +1,13 @@
+-- The entries from the k-th on decide, once the k before them have another name.
+use mathlib.Core.Path.{_≡_, sym, _∙_}
+use Prim.Native.Nat.{_-_, _≤_}
 use native.Mathlib.Omega.{arith}
 use native.Mathlib.Nat.{sub-zero}
-use Prim.Native.Nat.{_-_, _≤_}
-use mathlib.Core.Path.{_≡_, sym, _∙_}
 use borrow.Author.Needs.{needs}
 use Rattle.machine.specs.Machine.{lookup}
 use Rattle.machine.proofs.Searches.{find-hit, find-more}
 use Rattle.machine.proofs.names.find.Statement.{statement}
 use Rattle.machine.proofs.names.find.Tie as tie
-use Rattle.machine.proofs.names.find.Reads as reads
-use Rattle.machine.proofs.names.find.Lts as lts
-use Rattle.machine.proofs.names.entry_is.Reads as entry-is-reads
 
 abbrev Inv-loop : tie.InvT-loop
 Inv-loop names labels count start len k₀ k = (k ≤ count) × (lookup names labels start len (count - k) k ≡ lookup names labels start len count 0)
@@ -17,47 +15,36 @@ Inv-loop names labels count start len k₀ k = (k ≤ count) × (lookup names la
 abbrev μ-loop : tie.MeasureT-loop
 μ-loop names labels count start len k₀ k = count - k
 
--- src/names.rt:44:5
 loop-holds : tie.Need-loop-holds Inv-loop μ-loop
 loop-holds c = (search needs, simp sub-zero)
 
--- src/names.rt:45:12
 entry-is-requires : tie.Need-entry-is-requires Inv-loop μ-loop
 entry-is-requires c κs = (omega arith, omega arith, c .before .before .before .before .pre .2 (c .before .loop .k) (c .loop-test .taken))
 
--- src/names.rt:46:38
 mul-t9 : tie.Need-mul-t9 Inv-loop μ-loop
 mul-t9 c = search needs
 
--- src/names.rt:46:38
 add-t10 : tie.Need-add-t10 Inv-loop μ-loop
 add-t10 c = search needs
 
--- src/names.rt:46:31
 mul-t11 : tie.Need-mul-t11 Inv-loop μ-loop
 mul-t11 c = search needs
 
--- src/names.rt:46:31
 shared-slice-read-t13 : tie.Need-shared-slice-read-t13 Inv-loop μ-loop
 shared-slice-read-t13 c = search needs
 
--- src/names.rt:46:13
 returns : tie.Need-returns Inv-loop μ-loop
 returns c = sym (find-hit _ _ _ _ _ _ (c .before .before .before .loop-test .taken) (sym (c .before .before .entry-is .ensures) ∙ c .before .if1 .taken)) ∙ c .before .before .before .before .loop .inv .1
 
--- src/names.rt:48:9
 add-k : tie.Need-add-k Inv-loop μ-loop
 add-k c = search needs
 
--- src/names.rt:44:5
 loop-less : tie.Need-loop-less Inv-loop μ-loop
 loop-less c = search needs
 
--- src/names.rt:44:5
 loop-again : tie.Need-loop-again Inv-loop μ-loop
 loop-again c = (search needs, sym (find-more _ _ _ _ _ _ (c .before .before .loop-test .taken) (sym (c .before .entry-is .ensures) ∙ c .if1 .left)) ∙ c .before .before .before .loop .inv .1)
 
--- src/names.rt:39:1
 returns-2 : tie.Need-returns-2 Inv-loop μ-loop
 returns-2 c = let e : c .before .before .before .before .args .count - c .before .loop .k ≡ 0 = omega arith in rw e at (c .before .loop .inv .1)
 

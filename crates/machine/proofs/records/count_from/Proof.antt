@@ -1,23 +1,18 @@
+-- By the test.
 use borrow.Author.Tests.{lt-ltb, le-ltb}
 use borrow.Author.Needs.{needs}
 use Rattle.machine.proofs.records.count_from.Statement.{statement}
 use Rattle.machine.proofs.records.count_from.Tie as tie
-use Rattle.machine.proofs.records.count_from.Reads as reads
-use Rattle.machine.proofs.records.count_from.Lts as lts
 
--- src/records.rt:27:37
 cast-t3 : tie.Need-cast-t3
 cast-t3 c = search needs
 
--- src/records.rt:27:9
 returns : tie.Need-returns
 returns c = rw (lt-ltb _ _ (c .if1 .taken))
 
--- src/records.rt:29:43
 cast-t6 : tie.Need-cast-t6
 cast-t6 c = search needs
 
--- src/records.rt:23:1
 returns-2 : tie.Need-returns-2
 returns-2 c = rw (le-ltb _ _ (c .if1 .left))
 

@@ -1,34 +1,26 @@
+-- By cases.
 use borrow.Author.Needs.{needs}
 use Rattle.machine.proofs.records.count_number.Statement.{statement}
 use Rattle.machine.proofs.records.count_number.Tie as tie
-use Rattle.machine.proofs.records.count_number.Reads as reads
-use Rattle.machine.proofs.records.count_number.Lts as lts
 
--- src/records.rt:17:30
 enum-known-count : tie.Need-enum-known-count
 enum-known-count c = search needs
 
--- src/records.rt:17:36
 cast-result : tie.Need-cast-result
 cast-result c = search needs
 
--- src/records.rt:18:29
 enum-known-count-2 : tie.Need-enum-known-count-2
 enum-known-count-2 c = search needs
 
--- src/records.rt:18:43
 cast-result-2 : tie.Need-cast-result-2
 cast-result-2 c = search needs
 
--- src/records.rt:18:35
 add-result : tie.Need-add-result
 add-result c = search needs
 
--- src/records.rt:13:1
 returns : tie.Need-returns
 returns c = search needs
 
--- src/records.rt:13:1
 returns-2 : tie.Need-returns-2
 returns-2 c = rw (c .before .before .count2 .given .1)
 

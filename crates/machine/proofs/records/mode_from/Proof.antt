@@ -1,14 +1,11 @@
+-- By the test.
 use borrow.Author.Tests.{eq-eqb, ne-eqb}
 use Rattle.machine.proofs.records.mode_from.Statement.{statement}
 use Rattle.machine.proofs.records.mode_from.Tie as tie
-use Rattle.machine.proofs.records.mode_from.Reads as reads
-use Rattle.machine.proofs.records.mode_from.Lts as lts
 
--- src/records.rt:47:9
 returns : tie.Need-returns
 returns c = rw (eq-eqb _ _ (c .if1 .taken))
 
--- src/records.rt:43:1
 returns-2 : tie.Need-returns-2
 returns-2 c = rw (ne-eqb _ _ (c .if1 .left))
 

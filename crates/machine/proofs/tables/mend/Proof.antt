@@ -1,63 +1,48 @@
+-- Three stores of the three words of an array are the stores of the array.
 use native.Mathlib.Omega.{arith}
 use native.Mathlib.Numerals.{towards-suc}
-use mathlib.Core.Path.{_≡_, refl, sym, _∙_}
 use lib.ListN.{length-set}
-use Rattle.machine.proofs.Stores.{stores-three}
 use borrow.Author.Needs.{needs}
+use Rattle.machine.proofs.Stores.{stores-three}
 use Rattle.machine.proofs.tables.mend.Statement.{statement}
 use Rattle.machine.proofs.tables.mend.Tie as tie
-use Rattle.machine.proofs.tables.mend.Reads as reads
-use Rattle.machine.proofs.tables.mend.Lts as lts
 
--- src/tables.rt:32:22
 array-read-parcels : tie.Need-array-read-parcels
 array-read-parcels c = search needs
 
--- src/tables.rt:32:5
 mul-parcels : tie.Need-mul-parcels
 mul-parcels c = search needs
 
--- src/tables.rt:32:5
 slice-write-parcels : tie.Need-slice-write-parcels
 slice-write-parcels c = search needs
 
--- src/tables.rt:33:26
 array-read-parcels-2 : tie.Need-array-read-parcels-2
 array-read-parcels-2 c = search needs
 
--- src/tables.rt:33:13
 add-parcels : tie.Need-add-parcels
 add-parcels c = search needs
 
--- src/tables.rt:33:5
 mul-parcels-2 : tie.Need-mul-parcels-2
 mul-parcels-2 c = search needs
 
--- src/tables.rt:33:5
 slice-write-parcels-2 : tie.Need-slice-write-parcels-2
 slice-write-parcels-2 c = simp length-set (omega arith)
 
--- src/tables.rt:34:26
 array-read-parcels-3 : tie.Need-array-read-parcels-3
 array-read-parcels-3 c = search needs
 
--- src/tables.rt:34:13
 add-parcels-2 : tie.Need-add-parcels-2
 add-parcels-2 c = search needs
 
--- src/tables.rt:34:5
 mul-parcels-3 : tie.Need-mul-parcels-3
 mul-parcels-3 c = search needs
 
--- src/tables.rt:34:5
 slice-write-parcels-3 : tie.Need-slice-write-parcels-3
 slice-write-parcels-3 c = simp length-set (omega arith)
 
--- src/tables.rt:28:1
 same-length : tie.Need-same-length
 same-length c = search needs
 
--- src/tables.rt:28:1
 returns : tie.Need-returns
 returns c = simp towards-suc (stores-three _ (c .args .t3) _ (omega arith))
 

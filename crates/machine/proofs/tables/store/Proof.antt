@@ -1,14 +1,13 @@
+-- After k turns the first k numbers stand there.
+use mathlib.Core.Path.{_≡_, refl}
+use Prim.Native.Nat.{_-_, _≤_}
 use native.Mathlib.Omega.{arith}
-use Prim.Native.Nat.{_+_, _-_, _≤_}
-use mathlib.Core.Path.{_≡_, refl, sym, _∙_}
 use lib.ListN.{length, take, length-set}
 use lib.Seq.{sets}
 use borrow.Author.Needs.{needs}
 use Rattle.machine.proofs.Stores.{stores-more}
 use Rattle.machine.proofs.tables.store.Statement.{statement}
 use Rattle.machine.proofs.tables.store.Tie as tie
-use Rattle.machine.proofs.tables.store.Reads as reads
-use Rattle.machine.proofs.tables.store.Lts as lts
 
 abbrev Inv-loop : tie.InvT-loop
 Inv-loop table₀ at n values k₀ table k = (k ≤ n) × (table ≡ sets table₀ at (take k values)) × (length table ≡ length table₀)
@@ -16,47 +15,36 @@ Inv-loop table₀ at n values k₀ table k = (k ≤ n) × (table ≡ sets table�
 abbrev μ-loop : tie.MeasureT-loop
 μ-loop table₀ at n values k₀ table k = n - k
 
--- src/tables.rt:43:5
 loop-holds : tie.Need-loop-holds Inv-loop μ-loop
 loop-holds c = (omega arith, refl, refl)
 
--- src/tables.rt:44:25
 mul-table : tie.Need-mul-table Inv-loop μ-loop
 mul-table c = search needs
 
--- src/tables.rt:44:25
 array-read-table : tie.Need-array-read-table Inv-loop μ-loop
 array-read-table c = search needs
 
--- src/tables.rt:44:15
 add-table : tie.Need-add-table Inv-loop μ-loop
 add-table c = search needs
 
--- src/tables.rt:44:9
 mul-table-2 : tie.Need-mul-table-2 Inv-loop μ-loop
 mul-table-2 c = search needs
 
--- src/tables.rt:44:9
 slice-write-table : tie.Need-slice-write-table Inv-loop μ-loop
 slice-write-table c = search needs
 
--- src/tables.rt:45:9
 add-k : tie.Need-add-k Inv-loop μ-loop
 add-k c = search needs
 
--- src/tables.rt:43:5
 loop-less : tie.Need-loop-less Inv-loop μ-loop
 loop-less c = search needs
 
--- src/tables.rt:43:5
 loop-again : tie.Need-loop-again Inv-loop μ-loop
 loop-again c = (omega arith, stores-more _ _ _ _ (omega arith) (c .before .loop .inv .1), simp length-set (c .before .loop .inv .2))
 
--- src/tables.rt:38:1
 same-length : tie.Need-same-length Inv-loop μ-loop
 same-length c = search needs
 
--- src/tables.rt:38:1
 returns : tie.Need-returns Inv-loop μ-loop
 returns c = let e : c .before .loop .k ≡ c .before .before .args .n = omega arith in rw (← e) (c .before .loop .inv .1)
 
