@@ -1,5 +1,5 @@
 -- Document 01, "Refusal numbers": the number, the two details and the name's range of each refusal.
-use Prim.Native.Nat.{ℕ}
+use Prim.Native.Nat.{ℕ, min}
 use lib.IntN.{ℤ, pos}
 use Rattle.refusals.specs.declared.Told.{Told}
 use Rattle.refusals.specs.declared.Refusal.{Refusal}
@@ -17,6 +17,10 @@ two n a b = record { number = n; first = a; second = b; start = 0; length = 0 }
 
 abbrev pub named : ℕ → ℕ → ℕ → Told
 named n a b = record { number = n; first = pos 0; second = pos 0; start = a; length = b }
+
+-- the largest detail; no slice has more bytes
+abbrev pub most : ℕ
+most = 0x7fff_ffff_ffff_ffff
 
 -- the table of refusals
 abbrev pub toldOf : Refusal → Told
@@ -53,4 +57,4 @@ toldOf (NoRoomForLabels room) = one 30 (pos room)
 toldOf (NoRoomForJumps room) = one 31 (pos room)
 toldOf (NoRoomForLoops room) = one 32 (pos room)
 toldOf (BrokenSlot row) = one 33 (pos row)
-toldOf (NoRoomForBytes bytes) = one 34 (pos bytes)
+toldOf (NoRoomForBytes bytes) = one 34 (pos (min bytes most))

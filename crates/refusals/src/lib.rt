@@ -1,6 +1,8 @@
 // Why rows are refused, with document 01's number and details for each case.
 ghost use mathlib.Core.Path.{_≡_};
-ghost use Rattle.refusals.specs.Numbers.{toldOf};
+ghost use Prim.Native.Nat.{min};
+ghost use lib.IntN.{pos};
+ghost use Rattle.refusals.specs.Numbers.{alone, one, two, named, most, toldOf};
 
 // The refusals of document 01, in its order, under the Rust's names where it has one.
 pub enum Refusal {
@@ -62,4 +64,126 @@ pub struct Told {
     pub second: i64,
     pub start: u32,
     pub length: u32,
+}
+
+impl Told {
+    // A number alone.
+    fn alone(number: u32) -> Told
+        ensures { λ r. ⌜ r ≡ alone number ⌝ }
+    {
+        Told {
+            number,
+            first: 0,
+            second: 0,
+            start: 0,
+            length: 0,
+        }
+    }
+
+    // A number with a signed detail.
+    fn signed(number: u32, first: i64) -> Told
+        ensures { λ r. ⌜ r ≡ one number first ⌝ }
+    {
+        Told {
+            number,
+            first,
+            second: 0,
+            start: 0,
+            length: 0,
+        }
+    }
+
+    // A number with one detail.
+    fn one(number: u32, first: u32) -> Told
+        ensures { λ r. ⌜ r ≡ one number (pos first) ⌝ }
+    {
+        Told {
+            number,
+            first: first as i64,
+            second: 0,
+            start: 0,
+            length: 0,
+        }
+    }
+
+    // A number with the bytes that were lent.
+    fn lent(number: u32, bytes: u64) -> Told
+        ensures { λ r. ⌜ r ≡ one number (pos (min bytes most)) ⌝ }
+    {
+        if bytes <= 0x7fff_ffff_ffff_ffff {
+            Told::signed(number, bytes as i64)
+        } else {
+            Told::signed(number, 0x7fff_ffff_ffff_ffff)
+        }
+    }
+
+    // A number with two details.
+    fn two(number: u32, first: u8, second: u8) -> Told
+        ensures { λ r. ⌜ r ≡ two number (pos first) (pos second) ⌝ }
+    {
+        Told {
+            number,
+            first: first as i64,
+            second: second as i64,
+            start: 0,
+            length: 0,
+        }
+    }
+
+    // A number with a name's range.
+    fn named(number: u32, start: u32, length: u32) -> Told
+        ensures { λ r. ⌜ r ≡ named number start length ⌝ }
+    {
+        Told {
+            number,
+            first: 0,
+            second: 0,
+            start,
+            length,
+        }
+    }
+}
+
+impl Refusal {
+    // Its number, its two details and its name's range, as document 01 gives them.
+    pub fn told(self) -> Told
+        ensures { λ r. ⌜ r ≡ toldOf self ⌝ }
+    {
+        match self {
+            Refusal::RowSlice => Told::alone(1),
+            Refusal::Row => Told::alone(2),
+            Refusal::Encoding => Told::alone(3),
+            Refusal::InvalidUniversalRegister(first) => Told::one(4, first),
+            Refusal::InvalidDmIndex(first) => Told::one(5, first as u32),
+            Refusal::InvalidDmModifier(first) => Told::one(6, first as u32),
+            Refusal::UnsupportedPostModifyRegister(first) => Told::one(7, first as u32),
+            Refusal::Dag1StoreSource(first) => Told::one(8, first as u32),
+            Refusal::BranchOutOfRange(first) => Told::signed(9, first),
+            Refusal::CallTargetOutOfRange(first) => Told::one(10, first),
+            Refusal::DuplicateLabel(start, length) => Told::named(11, start, length),
+            Refusal::UndefinedLabel(start, length) => Told::named(12, start, length),
+            Refusal::InvalidPmIndex(first) => Told::one(13, first as u32),
+            Refusal::InvalidPmModifier(first) => Told::one(14, first as u32),
+            Refusal::MixedDag(first, second) => Told::two(15, first, second),
+            Refusal::SameDagRegister(first) => Told::one(16, first as u32),
+            Refusal::NotACompute => Told::alone(17),
+            Refusal::MultifunctionOperand(first, second) => Told::two(18, first, second),
+            Refusal::DuplicateDestination(first) => Told::one(19, first as u32),
+            Refusal::LoopCountZero => Told::alone(20),
+            Refusal::LoopOutOfRange(first) => Told::signed(21, first),
+            Refusal::EmptyLoop => Told::alone(22),
+            Refusal::UnclosedLoop => Told::alone(23),
+            Refusal::UnmatchedLoopEnd => Told::alone(24),
+            Refusal::SharedLoopEnd => Told::alone(25),
+            Refusal::LoopTailNotFullWidth(first) => Told::one(26, first),
+            Refusal::BranchInLoop => Told::alone(27),
+            Refusal::LabelInLoop(start, length) => Told::named(28, start, length),
+            Refusal::NoRoomForParcels(first) => Told::one(29, first),
+            Refusal::NoRoomForLabels(first) => Told::one(30, first),
+            Refusal::NoRoomForJumps(first) => Told::one(31, first),
+            Refusal::NoRoomForLoops(first) => Told::one(32, first),
+            Refusal::BrokenSlot(first) => Told::one(33, first),
+            Refusal::NoRoomForBytes(first) => Told::lent(34, first),
+        }
+    }
 }

@@ -1,0 +1,3 @@
+pub mod Lookups
+pub mod Filled
+pub mod Tails

@@ -1,0 +1,134 @@
+// The waiting jumps: each gets the word to its label, in item order.
+ghost use mathlib.Core.Path.{_≡_};
+ghost use Prim.Native.Nat.{_+_, _≤_};
+ghost use lib.ListN.{length};
+ghost use lib.Seq.{sets};
+ghost use Rattle.encode.specs.Encoding.{formVerdict};
+ghost use Rattle.places.specs.Items.{rowAt, rowsIn};
+ghost use Rattle.places.specs.Build.{ifGood, settled};
+ghost use Rattle.machine.specs.Machine.{lookup, ItemFine, ReadFine};
+ghost use Rattle.machine.specs.Scan.{Came};
+ghost use Rattle.machine.specs.Finish.{aimForm, aimChk, aimed, itemChk, itemAimed, readChk, readAimed, waitChk, waited, AimFine, AimsFine};
+use items::Condition;
+use items::Item;
+use machine::Sought;
+use machine::names;
+use machine::records;
+use machine::tables;
+use refusals::Refusal;
+use refusals::Verdict;
+use rows::Read;
+
+// The word of a jump at place p to place q stands there, if it encodes.
+pub fn settle(condition: Condition, p: usize, q: u32, parcels: &mut [u16]) -> Verdict
+    requires { ⌜ (p + 3 ≤ length (now parcels)) × (p ≤ 16777216) ⌝ }
+    ensures { λ r. ⌜ (r ≡ formVerdict (aimForm condition p q)) × (now (parcels .exit) ≡ ifGood r (sets (now (parcels .entry)) p (settled (aimForm condition p q))) (now (parcels .entry))) ⌝ }
+{
+    let form = encode::jump_form(condition, signs::apart(tables::wide(q), p), false);
+    let encodes = records::form_verdict(form);
+    match encodes {
+        Verdict::Refused(r) => {
+            return Verdict::Refused(r);
+        }
+        Verdict::Good => {}
+    }
+    tables::mend(parcels, p, records::settled(form));
+    Verdict::Good
+}
+
+// The jump at place p to a name: 12 before 9, or its word stands there.
+pub fn aim_one(
+    condition: Condition,
+    start: u32,
+    len: u32,
+    names: &[u8],
+    parcels: &mut [u16],
+    labels: &[u32],
+    n: usize,
+    p: usize,
+) -> Verdict
+    requires { ⌜ (AimFine (now names) (now labels) n p (length (now parcels))) × (start + len ≤ length (now names)) ⌝ }
+    ensures { λ r. ⌜ (r ≡ aimChk condition p start len (lookup (now (names .entry)) (now (labels .entry)) start len n 0)) × (now (parcels .exit) ≡ ifGood r (aimed condition p (lookup (now (names .entry)) (now (labels .entry)) start len n 0) (now (parcels .entry))) (now (parcels .entry))) ⌝ }
+{
+    let found = names::find(names, labels, n, start as usize, len as usize);
+    match found {
+        Sought::At(q) => settle(condition, p, q, parcels),
+        Sought::Nowhere => Verdict::Refused(Refusal::UndefinedLabel(start, len)),
+    }
+}
+
+// The item of a waiting jump's row at place p.
+pub fn aim_item(
+    it: Item,
+    names: &[u8],
+    parcels: &mut [u16],
+    labels: &[u32],
+    n: usize,
+    p: usize,
+) -> Verdict
+    requires { ⌜ (AimFine (now names) (now labels) n p (length (now parcels))) × ItemFine (now names) it ⌝ }
+    ensures { λ r. ⌜ (r ≡ itemChk (now (names .entry)) (now (labels .entry)) n p it) × (now (parcels .exit) ≡ ifGood r (itemAimed (now (names .entry)) (now (labels .entry)) n p it (now (parcels .entry))) (now (parcels .entry))) ⌝ }
+{
+    match it {
+        Item::Instruction(_) => Verdict::Good,
+        Item::Label {
+            start: _,
+            length: _,
+        } => Verdict::Good,
+        Item::Jump {
+            condition,
+            start,
+            length,
+        } => aim_one(condition, start, length, names, parcels, labels, n, p),
+        Item::LoopBegin { count: _, mode: _ } => Verdict::Good,
+        Item::LoopEnd => Verdict::Good,
+    }
+}
+
+// What was read of a waiting jump's row at place p.
+pub fn aim_row(
+    read: Read,
+    names: &[u8],
+    parcels: &mut [u16],
+    labels: &[u32],
+    n: usize,
+    p: usize,
+) -> Verdict
+    requires { ⌜ (AimFine (now names) (now labels) n p (length (now parcels))) × ReadFine (now names) read ⌝ }
+    ensures { λ r. ⌜ (r ≡ readChk (now (names .entry)) (now (labels .entry)) n p read) × (now (parcels .exit) ≡ ifGood r (readAimed (now (names .entry)) (now (labels .entry)) n p read (now (parcels .entry))) (now (parcels .entry))) ⌝ }
+{
+    match read {
+        Read::Item(it) => aim_item(it, names, parcels, labels, n, p),
+        Read::Refused(_) => Verdict::Good,
+    }
+}
+
+// The waiting jumps in turn, up to the first that is refused.
+pub fn aim_all(
+    rows: &[u32],
+    names: &[u8],
+    parcels: &mut [u16],
+    labels: &[u32],
+    n: usize,
+    jumps: &[u32],
+    count: usize,
+) -> Verdict
+    requires { ⌜ AimsFine (now names) (now labels) n (now jumps) (rowsIn (now rows)) count (length (now parcels)) ⌝ }
+    ensures { λ r. ⌜ Came (waitChk (now (names .entry)) (rowAt (now (rows .entry)) (now (names .entry))) (now (labels .entry)) n (now (jumps .entry))) (waited (now (names .entry)) (rowAt (now (rows .entry)) (now (names .entry))) (now (labels .entry)) n (now (jumps .entry))) (now (parcels .entry)) count r (now (parcels .exit)) ⌝ }
+{
+    let mut k = 0;
+    while k < count {
+        let p = tables::wide(jumps[2 * k]);
+        let row = tables::wide(jumps[2 * k + 1]);
+        let read = rows::read_at(rows, row, names.len());
+        let one = aim_row(read, names, parcels, labels, n, p);
+        match one {
+            Verdict::Refused(r) => {
+                return Verdict::Refused(r);
+            }
+            Verdict::Good => {}
+        }
+        k += 1;
+    }
+    Verdict::Good
+}

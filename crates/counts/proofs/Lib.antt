@@ -1,0 +1,4 @@
+pub mod Leaf
+pub mod Tally
+pub mod Single
+pub mod Agree

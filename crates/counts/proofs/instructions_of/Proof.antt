@@ -1,0 +1,53 @@
+-- Item by item; an instruction by what `issued` gives.
+use borrow.Author.Needs.{needs}
+use Rattle.counts.proofs.instructions_of.Statement.{statement}
+use Rattle.counts.proofs.instructions_of.Tie as tie
+
+enum-known-x : tie.Need-enum-known-x
+enum-known-x c = search needs
+
+issued-requires : tie.Need-issued-requires
+issued-requires c κs = search needs
+
+enum-told : tie.Need-enum-told
+enum-told c = search needs
+
+enum-told-2 : tie.Need-enum-told-2
+enum-told-2 c = search needs
+
+enum-told-3 : tie.Need-enum-told-3
+enum-told-3 c = search needs
+
+enum-told-4 : tie.Need-enum-told-4
+enum-told-4 c = search needs
+
+returns : tie.Need-returns
+returns c = rw (c .before .before .x .given .1) (c .issued .ensures)
+
+returns-2 : tie.Need-returns-2
+returns-2 c = search needs
+
+returns-3 : tie.Need-returns-3
+returns-3 c = search needs
+
+returns-4 : tie.Need-returns-4
+returns-4 c = search needs
+
+returns-5 : tie.Need-returns-5
+returns-5 c = search needs
+
+pub instructions-of-spec : {M : Type 1} → statement M
+instructions-of-spec =
+    tie.close
+    (tie.spec
+    enum-known-x
+    issued-requires
+    enum-told
+    enum-told-2
+    enum-told-3
+    enum-told-4
+    returns
+    returns-2
+    returns-3
+    returns-4
+    returns-5)

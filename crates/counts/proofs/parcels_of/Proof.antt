@@ -1,0 +1,53 @@
+-- Item by item; an instruction by what `encoded` gives.
+use borrow.Author.Needs.{needs}
+use Rattle.counts.proofs.parcels_of.Statement.{statement}
+use Rattle.counts.proofs.parcels_of.Tie as tie
+
+enum-known-x : tie.Need-enum-known-x
+enum-known-x c = search needs
+
+encoded-requires : tie.Need-encoded-requires
+encoded-requires c κs = search needs
+
+enum-told : tie.Need-enum-told
+enum-told c = search needs
+
+enum-told-2 : tie.Need-enum-told-2
+enum-told-2 c = search needs
+
+enum-told-3 : tie.Need-enum-told-3
+enum-told-3 c = search needs
+
+enum-told-4 : tie.Need-enum-told-4
+enum-told-4 c = search needs
+
+returns : tie.Need-returns
+returns c = rw (c .before .before .x .given .1) (c .encoded .ensures)
+
+returns-2 : tie.Need-returns-2
+returns-2 c = rw (c .enum-told .given .1)
+
+returns-3 : tie.Need-returns-3
+returns-3 c = rw (c .enum-told2 .given .1)
+
+returns-4 : tie.Need-returns-4
+returns-4 c = rw (c .enum-told3 .given .1)
+
+returns-5 : tie.Need-returns-5
+returns-5 c = rw (c .enum-told4 .given .1)
+
+pub parcels-of-spec : {M : Type 1} → statement M
+parcels-of-spec =
+    tie.close
+    (tie.spec
+    enum-known-x
+    encoded-requires
+    enum-told
+    enum-told-2
+    enum-told-3
+    enum-told-4
+    returns
+    returns-2
+    returns-3
+    returns-4
+    returns-5)

@@ -1,0 +1,3 @@
+pub mod Offsets
+pub mod Sizes
+pub mod Reach

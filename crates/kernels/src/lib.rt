@@ -1,0 +1,1 @@
+// Document 01's starred kernels: one table, proved over the definition of a build.

@@ -1,0 +1,5 @@
+pub mod Stores
+pub mod Searches
+pub mod Checks
+pub mod Encodings
+pub mod Steps

@@ -1,0 +1,53 @@
+-- The check is the machine's, since the encoding is; a row that passes has room for its parcels.
+use mathlib.Core.Path.{sym, _∙_}
+use native.Mathlib.Omega.{arith}
+use borrow.Author.Needs.{needs}
+use Rattle.machine.proofs.Encodings.{count-is, count-few, words-are, checked}
+use Rattle.machine.proofs.Checks.{stopped, went, kept, took, instruction-good}
+use Rattle.machine.proofs.State.instruction.Statement.{statement}
+use Rattle.machine.proofs.State.instruction.Tie as tie
+
+parcels-requires : tie.Need-parcels-requires
+parcels-requires c κs = search needs
+
+is-branch-requires : tie.Need-is-branch-requires
+is-branch-requires c κs = search needs
+
+instruction-check-requires : tie.Need-instruction-check-requires
+instruction-check-requires c κs = let f = count-few _ (c .before .parcels .ensures) in omega arith
+
+enum-known-k : tie.Need-enum-known-k
+enum-known-k c = search needs
+
+returns : tie.Need-returns
+returns c = let a = c .before .before .before .before .before .before .before .args in let e = sym (checked _ (c .before .before .before .before .before .parcels .ensures) (a .self) (a .rooms) (c .before .before .before .before .is-branch .ensures) (c .before .before .before .instruction-check .ensures)) ∙ c .before .k .given .1 in record { answer = stopped _ e; parcels = kept _ _ e }
+
+enum-told : tie.Need-enum-told
+enum-told c = search needs
+
+emit-requires : tie.Need-emit-requires
+emit-requires c κs = let a = c .before .before .before .before .before .before .before .before .args in let e = sym (checked _ (c .before .before .before .before .before .before .parcels .ensures) (a .self) (a .rooms) (c .before .before .before .before .before .is-branch .ensures) (c .before .before .before .before .instruction-check .ensures)) ∙ c .before .before .enum-told .given .1 in let f = count-few _ (c .before .before .before .before .before .before .parcels .ensures) in omega (arith, count-is _ (c .before .before .before .before .before .before .parcels .ensures), instruction-good (a .self) (a .rooms) (a .v) e .parcels)
+
+advance-requires : tie.Need-advance-requires
+advance-requires c κs = let f = count-few _ (c .before .before .before .before .before .before .before .before .before .parcels .ensures) in omega (arith, c .before .before .before .before .before .before .before .before .before .before .before .pre)
+
+same-length : tie.Need-same-length
+same-length c = search needs
+
+returns-2 : tie.Need-returns-2
+returns-2 c = let a = c .before .before .before .before .before .before .before .before .before .before .before .before .args in let e = sym (checked _ (c .before .before .before .before .before .before .before .before .before .before .parcels .ensures) (a .self) (a .rooms) (c .before .before .before .before .before .before .before .before .before .is-branch .ensures) (c .before .before .before .before .before .before .before .before .instruction-check .ensures)) ∙ c .before .before .before .before .before .before .enum-told .given .1 in record { answer = rw (c .advance .ensures, count-is _ (c .before .before .before .before .before .before .before .before .before .before .parcels .ensures)) (went _ e); parcels = took _ _ e (rw (words-are _ (c .before .before .before .before .before .before .before .before .before .before .parcels .ensures)) at (c .before .before .before .emit .ensures)) }
+
+pub instruction-spec : {M : Type 1} → statement M
+instruction-spec =
+    tie.close
+    (tie.spec
+    parcels-requires
+    is-branch-requires
+    instruction-check-requires
+    enum-known-k
+    returns
+    enum-told
+    emit-requires
+    advance-requires
+    same-length
+    returns-2)

@@ -1,0 +1,39 @@
+-- The tests in order, the last one that of the room.
+use mathlib.Core.Path.{sym, _∙_}
+use borrow.Author.Needs.{needs}
+use Rattle.machine.proofs.Checks.{last-one}
+use Rattle.machine.proofs.State.instruction_check.Statement.{statement}
+use Rattle.machine.proofs.State.instruction_check.Tie as tie
+
+bars-requires : tie.Need-bars-requires
+bars-requires c κs = search needs
+
+returns : tie.Need-returns
+returns c = rw (sym (c .before .bars .ensures) ∙ c .if1 .taken)
+
+enum-known-encodes : tie.Need-enum-known-encodes
+enum-known-encodes c = search needs
+
+enum-told : tie.Need-enum-told
+enum-told c = search needs
+
+room-check-requires : tie.Need-room-check-requires
+room-check-requires c κs = search needs
+
+returns-2 : tie.Need-returns-2
+returns-2 c = rw (sym (c .before .before .before .before .bars .ensures) ∙ c .before .before .before .if1 .left, c .before .encodes .given .1)
+
+returns-3 : tie.Need-returns-3
+returns-3 c = rw (sym (c .before .before .before .before .bars .ensures) ∙ c .before .before .before .if1 .left, c .before .enum-told .given .1, last-one) (c .room-check .ensures)
+
+pub instruction-check-spec : {M : Type 1} → statement M
+instruction-check-spec =
+    tie.close
+    (tie.spec
+    bars-requires
+    returns
+    enum-known-encodes
+    enum-told
+    room-check-requires
+    returns-2
+    returns-3)

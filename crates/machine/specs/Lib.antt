@@ -1,0 +1,4 @@
+pub mod Machine
+pub mod Scan
+pub mod Fold
+pub mod Finish

@@ -1,0 +1,51 @@
+// Names: ranges of the lent names, equal when their bytes are, and the search of the label entries.
+ghost use mathlib.Core.Path.{_≡_};
+ghost use Prim.Native.Nat.{_+_, _*_, _≤_};
+ghost use lib.ListN.{length, getD};
+ghost use Rattle.places.specs.Items.{sameFrom};
+ghost use Rattle.machine.specs.Machine.{entryIs, lookup, Entries};
+use crate::Sought;
+use crate::tables::wide;
+
+// Whether the `len` bytes of the names at `a` and at `b` are the same.
+pub fn same(names: &[u8], a: usize, b: usize, len: usize) -> bool
+    requires { ⌜ (a + len ≤ length (now names)) × (b + len ≤ length (now names)) ⌝ }
+    ensures { λ r. ⌜ r ≡ sameFrom (now (names .entry)) len a b ⌝ }
+{
+    let mut k = 0;
+    while k < len {
+        if names[a + k] != names[b + k] {
+            return false;
+        }
+        k += 1;
+    }
+    true
+}
+
+// Whether label entry k has the name at `start` of length `len`.
+pub fn entry_is(names: &[u8], labels: &[u32], k: usize, start: usize, len: usize) -> bool
+    requires { ⌜ (3 * k + 3 ≤ length (now labels)) × (start + len ≤ length (now names)) × (getD (now labels) (3 * k) 0 + getD (now labels) (3 * k + 1) 0 ≤ length (now names)) ⌝ }
+    ensures { λ r. ⌜ r ≡ entryIs (now (names .entry)) (now (labels .entry)) start len k ⌝ }
+{
+    let other = wide(labels[3 * k]);
+    let long = wide(labels[3 * k + 1]);
+    if long != len {
+        return false;
+    }
+    same(names, other, start, len)
+}
+
+// The place of the oldest of `count` label entries that has the name at `start` of length `len`.
+pub fn find(names: &[u8], labels: &[u32], count: usize, start: usize, len: usize) -> Sought
+    requires { ⌜ (3 * count ≤ length (now labels)) × (start + len ≤ length (now names)) × Entries (now names) (now labels) count ⌝ }
+    ensures { λ r. ⌜ r ≡ lookup (now (names .entry)) (now (labels .entry)) start len count 0 ⌝ }
+{
+    let mut k = 0;
+    while k < count {
+        if entry_is(names, labels, k, start, len) {
+            return Sought::At(labels[3 * k + 2]);
+        }
+        k += 1;
+    }
+    Sought::Nowhere
+}

@@ -1,0 +1,8 @@
+pub mod Tests
+pub mod Verdicts
+pub mod Looking
+pub mod Traits
+pub mod Totals
+pub mod Nesting
+pub mod Names
+pub mod Gathered

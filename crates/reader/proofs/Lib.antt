@@ -1,0 +1,13 @@
+pub mod Picks
+pub mod Buffers
+pub mod Values
+pub mod Cuts
+pub mod Readable
+pub mod Turns
+pub mod InLine
+pub mod OneLine
+pub mod Keeps
+pub mod AtHand
+pub mod Whole
+pub mod Feeding
+pub mod Samples

@@ -1,0 +1,4 @@
+pub mod Cases
+pub mod Named
+pub mod Counted
+pub mod Limit

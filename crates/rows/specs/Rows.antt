@@ -1,0 +1,112 @@
+-- Document 01, "Item rows" and "Refusal numbers": what a row says, an item or a refusal.
+use Prim.Native.Nat.{ℕ, _*_, _%_}
+use mathlib.Core.List.{List, [], _∷_}
+use mathlib.Core.Bool.{Bool, cond, _&&_}
+use lib.Dec.{eqb, leb}
+use Rattle.bounds.specs.Tables.{lookup, at}
+use Rattle.bounds.specs.Bounds.{isCompute}
+use Rattle.bounds.specs.Checks.{checkOf}
+use Rattle.computes.specs.Compute.{madeSingle, madeMulti}
+use Rattle.computes.specs.declared.Made.{Made}
+use Rattle.computes.specs.declared.Made.the-variants as made
+use Rattle.refusals.specs.declared.Verdict.{Verdict}
+use Rattle.refusals.specs.declared.Verdict.the-variants as verdict
+use Rattle.refusals.specs.declared.Refusal.the-variants.{NotACompute}
+use Rattle.items.specs.declared.OptionalCompute.{OptionalCompute}
+use Rattle.items.specs.declared.OptionalCompute.the-variants.{Nothing, Held}
+use Rattle.items.specs.declared.FloatMulAlu.{FloatMulAlu}
+use Rattle.items.specs.declared.DataAccess.{DataAccess}
+use Rattle.items.specs.declared.MemoryAccess.{MemoryAccess}
+use Rattle.items.specs.declared.VisaInstruction.{VisaInstruction}
+use Rattle.items.specs.declared.VisaInstruction.the-variants as visa
+use Rattle.items.specs.declared.Item.the-variants as item
+use Rattle.rows.specs.declared.Read.{Read}
+use Rattle.rows.specs.declared.Read.the-variants as read
+use Rattle.rows.specs.declared.Beside.{Beside}
+use Rattle.rows.specs.declared.Beside.the-variants.{Compute, Refused}
+use Rattle.rows.specs.Fields.{reg, index, modifier, code, conditionOf, directionOf, updateOf, aluOpOf, modeOf, countOf, instructionOf}
+
+-- "row slice not a multiple of 17 or over the limit": whether refusal 1 is not met; "Rows: at most 4,194,304"
+abbrev pub wellFormed : ℕ → Bool
+wellFormed length = eqb (length % 17) 0 && leb length (4194304 * 17)
+
+-- "2 multifunction, then seven fields"
+abbrev pub multiOf : List ℕ → FloatMulAlu
+multiOf row =
+    record {
+      product = reg (at row 2);
+      «mul_x» = reg (at row 3);
+      «mul_y» = reg (at row 4);
+      op = aluOpOf (at row 5);
+      «alu_dst» = reg (at row 6);
+      «alu_x» = reg (at row 7);
+      «alu_y» = reg (at row 8);
+    }
+
+-- "1 single, then a kind .. and its three field places", 17 where the kind is no compute
+abbrev pub singleOf : List ℕ → Made
+singleOf row = cond (isCompute (at row 2)) (madeSingle (instructionOf (at row 2) (at row 3) (at row 4) (at row 5))) (made.Refused NotACompute)
+
+-- the compute of a row that has one
+unfoldable pub computeOf : List ℕ → Made
+computeOf row = lookup (at row 1) ((1, singleOf row) ∷ (2, madeMulti (multiOf row)) ∷ []) (madeMulti (multiOf row))
+
+-- "0 none", or the compute beside a move
+abbrev pub beside : Made → Beside
+beside (made.Made compute) = Compute (Held compute)
+beside (made.Refused refusal) = Refused refusal
+
+unfoldable pub besideOf : List ℕ → Beside
+besideOf row = cond (eqb (at row 1) 0) (Compute Nothing) (beside (computeOf row))
+
+-- `DataAccess` and `MemoryAccess`: the direction a, the register b, the index c, the modifier d and the update e
+unfoldable pub dataAccessOf : ℕ → ℕ → ℕ → ℕ → DataAccess
+dataAccessOf a b c d = record { direction = directionOf a; register = reg b; index = index c; modifier = modifier d }
+
+unfoldable pub memoryAccessOf : ℕ → ℕ → ℕ → ℕ → ℕ → MemoryAccess
+memoryAccessOf a b c d e = record { direction = directionOf a; register = code b; index = index c; modifier = modifier d; update = updateOf e }
+
+-- after the eight places of the compute: the DM half and the PM half of a dual move, and the access of a memory move
+abbrev pub dmOf : List ℕ → DataAccess
+dmOf row = dataAccessOf (at row 9) (at row 10) (at row 11) (at row 12)
+
+abbrev pub pmOf : List ℕ → DataAccess
+pmOf row = dataAccessOf (at row 13) (at row 14) (at row 15) (at row 16)
+
+abbrev pub accessOf : List ℕ → MemoryAccess
+accessOf row = memoryAccessOf (at row 9) (at row 10) (at row 11) (at row 12) (at row 13)
+
+-- kinds 32 to 34, or the refusal of the compute
+abbrev pub computeItem : Made → Read
+computeItem (made.Made compute) = read.Item (item.Instruction (visa.Compute compute))
+computeItem (made.Refused refusal) = read.Refused refusal
+
+abbrev pub dualMove : DataAccess → DataAccess → Beside → Read
+dualMove dm pm (Compute compute) = read.Item (item.Instruction (visa.DualMove compute dm pm))
+dualMove dm pm (Refused refusal) = read.Refused refusal
+
+abbrev pub memoryMove : MemoryAccess → Beside → Read
+memoryMove access (Compute compute) = read.Item (item.Instruction (visa.MemoryMove compute access))
+memoryMove access (Refused refusal) = read.Refused refusal
+
+-- the item of a row within its bounds, or 17, 18 or 19 of its compute
+unfoldable pub itemOf : List ℕ → Read
+itemOf row =
+    lookup (at row 0)
+    ((32, computeItem (computeOf row)) ∷
+    (33, dualMove (dmOf row) (pmOf row) (besideOf row)) ∷
+    (34, memoryMove (accessOf row) (besideOf row)) ∷
+    (48, read.Item (item.Label (at row 1) (at row 2))) ∷
+    (49, read.Item (item.Jump (conditionOf (at row 1)) (at row 2) (at row 3))) ∷
+    (50, read.Item (item.LoopBegin (countOf (at row 1) (at row 2)) (modeOf (at row 3)))) ∷
+    (51, read.Item item.LoopEnd) ∷ [])
+    (read.Item (item.Instruction (instructionOf (at row 0) (at row 1) (at row 2) (at row 3))))
+
+-- "In a row: 2, 4 (first in field order), compute construction"
+abbrev pub after : Verdict → Read → Read
+after verdict.Good item = item
+after (verdict.Refused refusal) item = read.Refused refusal
+
+-- what a row of seventeen numbers says, over `names` bytes of names
+unfoldable pub readOf : List ℕ → ℕ → Read
+readOf row names = after (checkOf row names) (itemOf row)

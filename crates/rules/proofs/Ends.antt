@@ -1,0 +1,152 @@
+-- Where the rules hold, every loop end passes, and what may not stand in a loop stands outside of all.
+use Prim.Native.Nat.{ℕ, suc, _+_, _≤_, _<_}
+use native.Mathlib.Omega.{arith}
+use mathlib.Core.Path.{_≡_, sym, ap, _∙_, subst}
+use mathlib.Core.Logic.{⊎-elim}
+use mathlib.Core.Bool.{true, false, _&&_}
+use mathlib.Core.List.{List}
+use lib.Dec.{ltb}
+use borrow.Author.Tests.{ltb-true, le-ltb, ne-eqb, eqb-true}
+use Rattle.items.specs.Kinds.{isBranch}
+use Rattle.items.specs.declared.LoopCount.{LoopCount}
+use Rattle.items.specs.declared.VisaInstruction.{VisaInstruction}
+use Rattle.items.specs.declared.Item.the-variants.{Instruction, LoopBegin, LoopEnd}
+use Rattle.refusals.specs.declared.Verdict.the-variants.{Good}
+use Rattle.encode.specs.Encoding.{formVerdict}
+use Rattle.encode.proofs.Reach.{loop-reach}
+use Rattle.rows.specs.declared.Read.{Read}
+use Rattle.rows.specs.declared.Read.the-variants.{Item}
+use Rattle.places.specs.declared.Rooms.{Rooms}
+use Rattle.places.specs.Items.{about, size, isEntry, place, entries, nest}
+use Rattle.places.specs.Build.{lastAt, shortNo, endNo, opener, faults, loopRow}
+use Rattle.prefixes.proofs.Tests.{true-false, not-so, and-both, order}
+use Rattle.prefixes.proofs.Verdicts.{AllGood, good-when}
+use Rattle.prefixes.proofs.Looking.{LatestRow, latest-row, latest-is, latest-none}
+use Rattle.prefixes.proofs.Traits.{closes-end, short-entry}
+use Rattle.prefixes.proofs.Totals.{total-up, LastEntry, last-entry, last-is}
+use Rattle.prefixes.proofs.Nesting.{innermost, not-before}
+use Rattle.rules.specs.Rules.{Pair, Last, Valid}
+use Rattle.rules.proofs.Pairs.{isEnd, isShort, pair-from, pair-to}
+
+module _ (names : List ℕ) (it : ℕ → Read) (n : ℕ) (r : Rooms) (valid : Valid names it n r) where
+  -- ---- outside of loops
+  -- a pair around row i
+  record Inside (i : ℕ) : Type 0 where
+    start : ℕ
+    end : ℕ
+    pair : Pair names it n start end
+    after : start < i
+    before : i < end
+
+  inside : (i : ℕ) → i < n → 0 < nest it i → about (it i) .closes ≡ 0 → Inside i
+  inside i h d c =
+      let o = innermost it names i d .open-at in
+      let b = o .before in
+      let x = pair-from names it n (opener names it i) (omega (arith, valid .rule3 .closed)) (omega arith) (o .opens) in
+      let p = x .pair in
+      let q : about (it (x .end)) .closes ≡ 1 = ap (λ (y : Read). about y .closes) (p .closes) in
+      record {
+        start = opener names it i;
+        end = x .end;
+        pair = p;
+        after = b;
+        before = ⊎-elim (λ l. l) (λ l. let w = not-before it o q (p .level) (p .order) in let e : x .end ≡ i = omega arith in let z : about (it i) .closes ≡ 1 = rw e at q in absurd (omega arith)) (order i (x .end));
+      }
+
+  pub outside : (i : ℕ) → i < n → about (it i) .closes ≡ 0 → ((b e : ℕ) → Pair names it n b e → b < i → i < e → ⊥) → ltb 0 (nest it i) ≡ false
+  outside i h c f =
+      ⊎-elim (λ d. let x = inside i h d c in absurd (f (x .start) (x .end) (x .pair) (x .after) (x .before))) (λ d. le-ltb 0 (nest it i) d) (order 0 (nest it i))
+
+  pub no-branch : (i : ℕ) (v : VisaInstruction) → i < n → it i ≡ Item (Instruction v) → (isBranch v && ltb 0 (nest it i)) ≡ true → ⊥
+  no-branch i v h e t =
+      let y = and-both _ _ t in
+      let x = inside i h (ltb-true 0 (nest it i) (y .1)) (ap (λ (s : Read). about s .closes) e) in
+      true-false (y .0) (valid .rule3 .no-branch (x .start) (x .end) i v (x .pair) (x .after) (x .before) e)
+
+  -- ---- a loop end and its start
+  module _ (i : ℕ) (h : i < n) (e : it i ≡ Item LoopEnd) where
+    inner : 0 < nest it i
+    inner = valid .rule3 .matched i h e
+
+    abbrev b : ℕ
+    b = opener names it i
+
+    pair : Pair names it n b i
+    pair = pair-to names it n i inner h (ap (λ (y : Read). about y .closes) e)
+
+    one : isEntry (it b) ≡ 1
+    one = ap isEntry (pair .opens)
+
+    -- the start and what stands before it
+    past : entries it b + 1 ≤ entries it i
+    past = let w = total-up isEntry it (suc b) i (pair .order) in let y = one in omega arith
+
+    last : LastEntry it i
+    last = last-entry it i (let w = past in omega arith)
+
+    last-of : Last names it n (last .row) i
+    last-of = record { before = last .before; entry = last .entry; none-after = last .none-after }
+
+    not-empty : entries it i ≡ entries it b + 1 → ⊥
+    not-empty z =
+        let k = valid .rule3 .some b i pair in
+        let y = one in
+        let x = k .entry in
+        let u = total-up isEntry it (suc b) (k .row) (omega (arith, k .after)) in
+        let w = total-up isEntry it (suc (k .row)) i (k .before) in
+        omega arith
+
+    -- an end with as many instructions before it ends on the same one
+    not-shared : endNo names it i ≡ entries it i → ⊥
+    not-shared z =
+        ⊎-elim (λ m. let w = latest-none (isEnd it) (λ q. entries it q) i m in let y = past in omega arith) earlier
+        (latest-row (isEnd it) i)
+      where
+        earlier : LatestRow (isEnd it) i → ⊥
+        earlier m =
+            let f = m .row in
+            let l = m .before in
+            let c = eqb-true (about (it f) .closes) 1 (m .holds) in
+            let s = latest-is (isEnd it) (λ q. entries it q) i m in
+            let p = pair-to names it n f (valid .rule3 .matched f (omega arith) (closes-end (it f) c)) (omega arith) c in
+            let k = last .row in
+            let x = last .entry in
+            let y = last .none-after in
+            let g : k < f = ⊎-elim (λ u. u) (λ u. absurd (let w = total-up isEntry it f k u in omega arith)) (order k f) in
+            let t = valid .rule4 .apart (opener names it f) f b i k p pair (record { before = g; entry = x; none-after = y ∙ sym z ∙ s }) last-of in
+            omega arith
+
+    full-width : (ltb (entries it b + 1) (shortNo names it i) && ltb (entries it i) (shortNo names it i + 11)) ≡ true → ⊥
+    full-width t =
+        let g = and-both _ _ t in
+        let u = ltb-true (entries it b + 1) (shortNo names it i) (g .0) in
+        let v = ltb-true (entries it i) (shortNo names it i + 11) (g .1) in
+        ⊎-elim (λ m. let w = latest-none (isShort it) (λ q. entries it q + 1) i m in omega arith)
+        (λ m.
+        let w = latest-is (isShort it) (λ q. entries it q + 1) i m in
+        let s = short-entry (it (m .row)) (eqb-true _ _ (m .holds)) in
+        let l : b < m .row = ⊎-elim (λ x. x) (λ x. absurd (let y = total-up isEntry it (m .row) b x in omega arith)) (order b (m .row)) in
+        s .1 (valid .rule4 .tail b i (m .row) pair l (m .before) (s .0) (omega arith)))
+        (latest-row (isShort it) i)
+
+    form : formVerdict (loopRow names it i b (it b)) ≡ Good
+    form =
+        let p = pair in
+        let k = last .row in
+        let y = one in
+        let w = last-is it names k i (last .before) (last .entry) (last .none-after) in
+        let g = valid .rule5 .near b i k p last-of in
+        let l : b ≤ k = ⊎-elim (λ u. absurd (let x = total-up isEntry it (suc k) b u in let z = past in let s = last .none-after in omega arith)) (λ u. u) (order k b) in
+        let x = total-up size it b k l in
+        subst (λ (y : Read). formVerdict (loopRow names it i b y) ≡ Good) (sym (p .opens))
+        (loop-reach (p .count) (p .mode) (lastAt names it i) (place it b) .1
+        (omega arith, omega arith, λ z. let d = valid .rule5 .counted b 0 (p .mode) (omega (arith, p .order)) (p .opens ∙ ap (λ (c : LoopCount). Item (LoopBegin c (p .mode))) z) in omega arith))
+
+    pub end-passes : AllGood (faults names it r i (Item LoopEnd))
+    end-passes = (
+      good-when _ _ (ne-eqb _ _ (λ (z : nest it i ≡ 0). let w = inner in omega arith)),
+      (
+        good-when _ _ (ne-eqb _ _ not-empty),
+        (good-when _ _ (ne-eqb _ _ not-shared), (good-when _ _ (not-so _ full-width), (form, tt))),
+      ),
+    )

@@ -1,0 +1,9 @@
+pub mod Pairs
+pub mod Rows
+pub mod Labels
+pub mod Loops
+pub mod Ends
+pub mod Rooms
+pub mod Exactly
+pub mod Parcels
+pub mod Answers

@@ -1,0 +1,3 @@
+pub mod Delayed
+pub mod Watching
+pub mod Single

@@ -1,0 +1,80 @@
+-- What is kept in mind after i rows is `Watching`'s.
+use mathlib.Core.Path.{sym, _∙_}
+use Prim.Native.Nat.{_-_}
+use borrow.Author.Count.{below-none}
+use borrow.Author.Tests.{not-false}
+use borrow.Author.Needs.{needs}
+use Rattle.rows.proofs.Limit.{rows-few}
+use Rattle.places.specs.Items.{rowAt}
+use Rattle.slots.proofs.Watching.{Watching, watching-next, watching-stop, watching-end}
+use Rattle.slots.proofs.slot_check.Statement.{statement}
+use Rattle.slots.proofs.slot_check.Tie as tie
+
+abbrev Inv-loop : tie.InvT-loop
+Inv-loop rows names n watch₀ i₀ watch i = Watching (rowAt rows names) n i watch
+
+abbrev μ-loop : tie.MeasureT-loop
+μ-loop rows names n watch₀ i₀ watch i = n - i
+
+well-formed-requires : tie.Need-well-formed-requires Inv-loop μ-loop
+well-formed-requires c κs = search needs
+
+returns : tie.Need-returns Inv-loop μ-loop
+returns c = rw (← c .before .well-formed .ensures, c .if1 .taken)
+
+loop-holds : tie.Need-loop-holds Inv-loop μ-loop
+loop-holds c = record { few = rows-few _ (sym (c .before .well-formed .ensures) ∙ not-false _ (c .if1 .left)); within = search needs; good = below-none _; seen = below-none _ }
+
+read-at-requires : tie.Need-read-at-requires Inv-loop μ-loop
+read-at-requires c κs = search needs
+
+enum-known-read : tie.Need-enum-known-read Inv-loop μ-loop
+enum-known-read c = search needs
+
+cast-after : tie.Need-cast-after Inv-loop μ-loop
+cast-after c = search needs
+
+after-requires : tie.Need-after-requires Inv-loop μ-loop
+after-requires c κs = search needs
+
+enum-known-read-2 : tie.Need-enum-known-read-2 Inv-loop μ-loop
+enum-known-read-2 c = search needs
+
+returns-2 : tie.Need-returns-2 Inv-loop μ-loop
+returns-2 c = rw (← c .before .before .before .before .before .before .before .well-formed .ensures, not-false (c .before .before .before .before .before .before .before .well-formed .result) (c .before .before .before .before .before .before .if1 .left), watching-stop _ _ (c .before .before .before .before .before .loop .inv) (c .before .before .before .before .loop-test .taken) {r = c .before .read2 .given .0 .0} (sym (c .before .before .before .read-at .ensures) ∙ c .before .read2 .given .1))
+
+add-i : tie.Need-add-i Inv-loop μ-loop
+add-i c = search needs
+
+loop-less : tie.Need-loop-less Inv-loop μ-loop
+loop-less c = search needs
+
+loop-again : tie.Need-loop-again Inv-loop μ-loop
+loop-again c = rw (c .after .ensures) (watching-next _ _ (c .before .before .before .before .before .before .loop .inv) (c .before .before .before .before .before .loop-test .taken) (sym (c .before .before .before .before .read-at .ensures) ∙ c .before .before .read .given .1))
+
+ending-requires : tie.Need-ending-requires Inv-loop μ-loop
+ending-requires c κs = search needs
+
+returns-3 : tie.Need-returns-3 Inv-loop μ-loop
+returns-3 c = let e = watching-end _ _ (c .before .before .loop .inv) (c .before .loop-test .left) in rw (← c .before .before .before .before .well-formed .ensures, not-false (c .before .before .before .before .well-formed .result) (c .before .before .before .if1 .left), e .0) (c .ending .ensures ∙ e .1)
+
+pub slot-check-spec : {M : Type 1} → statement M
+slot-check-spec =
+    tie.close
+    (tie.spec
+    Inv-loop
+    μ-loop
+    well-formed-requires
+    returns
+    loop-holds
+    read-at-requires
+    enum-known-read
+    cast-after
+    after-requires
+    enum-known-read-2
+    returns-2
+    add-i
+    loop-less
+    loop-again
+    ending-requires
+    returns-3)

@@ -1,0 +1,106 @@
+-- Each form tiles its bits, so the laws of packing give both directions: its word reads back as its numbers, and no other word does.
+use Prim.Native.Nat.{ℕ, _+_, _-_, _<_, _^_}
+use native.Mathlib.Omega.{arith}
+use mathlib.Core.Path.{_≡_, refl, sym, ap, ap₂, _∙_}
+use mathlib.Core.List.{List, [], _∷_}
+use Rattle.fields.specs.Pack.{Field, bits, pack, field, Fit, values, reads, Tiles, refill}
+use Rattle.fields.proofs.Packed.{below, read-back, rebuild}
+use Rattle.computes.specs.Compute.{type2a, single, multi}
+use Rattle.words.specs.Forms.{long17a, move5a, modify19a, offset15a, jump8a, call25a, store16a, mode18a, dual1a, memory3a, loop12a, registerLoop12a, nop21a, transfer5b, modify3b, offset15b, modify3c, nop21c}
+
+-- each number fits its field
+abbrev pub Small : List Field → Type 0
+Small [] = Unit
+Small (bits hi lo v ∷ fs) = (v < 2 ^ (hi + 1 - lo)) × Small fs
+
+pub tiled-fit : (top : ℕ) (fs : List Field) → Tiles top fs → Small fs → Fit top fs
+tiled-fit top [] t s = tt
+tiled-fit top (bits hi lo v ∷ fs) t s = (t .1, omega arith, s .0, tiled-fit lo fs (t .2) (s .1))
+
+-- a word with the fields' numbers at the fields' places refills them as they are
+refill-same : (fs : List Field) (word : ℕ) → reads fs word ≡ values fs → refill fs word ≡ fs
+refill-same [] word e = refl
+refill-same (bits hi lo v ∷ fs) word e =
+    let first : field hi lo word ≡ v = cc in
+    let rest : reads fs word ≡ values fs = cc in
+    ap₂ (λ (n : ℕ) (gs : List Field). bits hi lo n ∷ gs) first (refill-same fs word rest)
+
+-- what a form's word says: it has the form's width, reads back as the form's numbers, and is the only word that does
+pub record Faithful (top : ℕ) (fs : List Field) : Type 0 where
+  pub within : pack fs < 2 ^ top
+  pub back : reads fs (pack fs) ≡ values fs
+  pub only : (word : ℕ) → word < 2 ^ top → reads fs word ≡ values fs → word ≡ pack fs
+
+-- THE LAW of every form: it is faithful where its numbers fit
+pub faithful : (top : ℕ) (fs : List Field) → Tiles top fs → Small fs → Faithful top fs
+faithful top fs t s = record {
+  within = below top fs (tiled-fit top fs t s);
+  back = read-back top fs (tiled-fit top fs t s);
+  only = λ word h e. sym (rebuild top fs word t h) ∙ ap pack (refill-same fs word e);
+}
+
+-- three parcels
+pub tiles-single : (unit opcode rn rx ry : ℕ) → Tiles 48 (type2a (single unit opcode rn rx ry))
+tiles-single unit opcode rn rx ry = omega arith
+
+pub tiles-multi : (opcode product destination mulX mulY aluX aluY : ℕ) → Tiles 48 (type2a (multi opcode product destination mulX mulY aluX aluY))
+tiles-multi opcode product destination mulX mulY aluX aluY = omega arith
+
+pub tiles-2a : (n : ℕ) → Tiles 48 (type2a (bits 22 0 n ∷ []))
+tiles-2a n = omega arith
+
+pub tiles-17a : (opcode code value : ℕ) → Tiles 48 (long17a opcode code value)
+tiles-17a opcode code value = omega arith
+
+pub tiles-5a : (dst src : ℕ) → Tiles 48 (move5a dst src)
+tiles-5a dst src = omega arith
+
+pub tiles-19a : (index offset : ℕ) → Tiles 48 (modify19a index offset)
+tiles-19a index offset = omega arith
+
+pub tiles-15a : (code index offset store : ℕ) → Tiles 48 (offset15a code index offset store)
+tiles-15a code index offset store = omega arith
+
+pub tiles-8a : (condition delayed offset : ℕ) → Tiles 48 (jump8a condition delayed offset)
+tiles-8a condition delayed offset = omega arith
+
+pub tiles-25a : (target : ℕ) → Tiles 48 (call25a target)
+tiles-25a target = omega arith
+
+pub tiles-16a : (index modifier g value : ℕ) → Tiles 48 (store16a index modifier g value)
+tiles-16a index modifier g value = omega arith
+
+pub tiles-18a : (bop mask : ℕ) → Tiles 48 (mode18a bop mask)
+tiles-18a bop mask = omega arith
+
+pub tiles-1a : (dmd dmi dmm pmd dmdreg pmi pmm pmdreg n : ℕ) → Tiles 48 (dual1a dmd dmi dmm pmd dmdreg pmi pmm pmdreg n)
+tiles-1a dmd dmi dmm pmd dmdreg pmi pmm pmdreg n = omega arith
+
+pub tiles-3a : (u index modifier g d code n : ℕ) → Tiles 48 (memory3a u index modifier g d code n)
+tiles-3a u index modifier g d code n = omega arith
+
+pub tiles-12a : (count f1 offset : ℕ) → Tiles 48 (loop12a count f1 offset)
+tiles-12a count f1 offset = omega arith
+
+pub tiles-12a-register : (code f1 offset : ℕ) → Tiles 48 (registerLoop12a code f1 offset)
+tiles-12a-register code f1 offset = omega arith
+
+pub tiles-21a : Tiles 48 nop21a
+tiles-21a = omega arith
+
+-- two parcels
+pub tiles-5b : (dst src : ℕ) → Tiles 32 (transfer5b dst src)
+tiles-5b dst src = omega arith
+
+pub tiles-3b : (code index modifier store : ℕ) → Tiles 32 (modify3b code index modifier store)
+tiles-3b code index modifier store = omega arith
+
+pub tiles-15b : (code index offset store : ℕ) → Tiles 32 (offset15b code index offset store)
+tiles-15b code index offset store = omega arith
+
+-- one parcel
+pub tiles-3c : (code index modifier store : ℕ) → Tiles 16 (modify3c code index modifier store)
+tiles-3c code index modifier store = omega arith
+
+pub tiles-21c : Tiles 16 nop21c
+tiles-21c = omega arith
