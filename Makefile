@@ -3,6 +3,10 @@ SHELL := /bin/sh
 KERNEL ?= examples/branch.kernel
 LINK := target/staticlib/liblink.a
 ORACLE := target/oracle
+# `--partial` lets a library pass that lacks some of its functions: what it lacks is left out, with a word.
+PARTIAL := --partial
+# What runs a program for x86-64: nothing on such a machine, `tools/run` on another.
+X86_64 := $(if $(filter x86_64,$(shell uname -m)),,sh tools/run)
 
 .PHONY: help run test oracle sample link compare compare-short speed
 
@@ -25,16 +29,17 @@ link: ## prove the library and write target/staticlib/liblink.a
 sample: oracle ## make the stored answers of the original Rust anew
 	@sh oracle/store
 
-compare: oracle link ## hold the port against the original Rust: rows and lists, some minutes
+compare: link ## hold the port against the original Rust: rows, lists, the Rust crate and the C example, some minutes
 	@LINK_LIB=target/staticlib sh oracle/build compare
-	@$(ORACLE)/compare rows
-	@$(ORACLE)/compare lists
+	@$(X86_64) $(ORACLE)/compare all $(PARTIAL)
+	@PARTIAL=$(PARTIAL) sh include/test
+	@PARTIAL=$(PARTIAL) sh rust/test
 
-compare-short: oracle link ## the same on fewer inputs, a minute or two
+compare-short: link ## the same on fewer inputs, a minute or two
 	@LINK_LIB=target/staticlib sh oracle/build compare
-	@$(ORACLE)/compare rows --count 200000
-	@$(ORACLE)/compare lists --count 20000
+	@$(X86_64) $(ORACLE)/compare all --short $(PARTIAL)
+	@PARTIAL=$(PARTIAL) sh include/test
 
-speed: oracle link ## time the port against the original Rust
+speed: link ## time the port against the original Rust (on an x86-64 machine only)
 	@LINK_LIB=target/staticlib sh oracle/build compare
-	@$(ORACLE)/compare speed rows
+	@$(X86_64) $(ORACLE)/compare speed rows

@@ -42,6 +42,20 @@ pub struct Guarded<T> {
     all: Vec<T>,
 }
 
+impl Guarded<u8> {
+    /// So many bytes to lend.
+    pub fn bytes(length: usize) -> Self {
+        Self::new(length, |place| small(place) as u8)
+    }
+}
+
+impl Guarded<u16> {
+    /// So many parcels to lend.
+    pub fn parcels(length: usize) -> Self {
+        Self::new(length, small)
+    }
+}
+
 impl<T: Copy> Guarded<T> {
     fn new(length: usize, pattern: fn(usize) -> T) -> Self {
         let all = (0..length + 2 * GUARD).map(pattern).collect();
@@ -51,6 +65,20 @@ impl<T: Copy> Guarded<T> {
     pub fn lent(&mut self) -> &mut [T] {
         let end = self.all.len() - GUARD;
         &mut self.all[GUARD..end]
+    }
+
+    /// The first place that differs, counted from the buffer's start: guards before it are
+    /// negative.
+    pub fn difference(&self, port: &Self, what: &str) -> Option<String>
+    where
+        T: PartialEq + std::fmt::Debug,
+    {
+        if self.all == port.all {
+            return None;
+        }
+        let at = self.all.iter().zip(&port.all).position(|(a, b)| a != b)?;
+        let from_start = at as i64 - GUARD as i64;
+        Some(format!("{what} {from_start}: {:?} expected, {:?} found", self.all[at], port.all[at]))
     }
 }
 
@@ -77,7 +105,7 @@ pub struct Buffers {
 impl Buffers {
     pub fn new(lengths: &Lengths) -> Self {
         Self {
-            parcels: Guarded::new(lengths.parcels, small),
+            parcels: Guarded::parcels(lengths.parcels),
             labels: Guarded::new(lengths.labels, large),
             jumps: Guarded::new(lengths.jumps, large),
             loops: Guarded::new(lengths.loops, record),
@@ -93,23 +121,14 @@ impl Buffers {
         }
     }
 
-    /// The first place that differs, counted from each buffer's start: guards before it are
-    /// negative.
+    /// The first place that differs.
     pub fn difference(&self, port: &Self) -> Option<String> {
-        place("parcels", &self.parcels.all, &port.parcels.all)
-            .or_else(|| place("labels", &self.labels.all, &port.labels.all))
-            .or_else(|| place("jumps", &self.jumps.all, &port.jumps.all))
-            .or_else(|| place("loops", &self.loops.all, &port.loops.all))
+        self.parcels
+            .difference(&port.parcels, "parcels")
+            .or_else(|| self.labels.difference(&port.labels, "labels"))
+            .or_else(|| self.jumps.difference(&port.jumps, "jumps"))
+            .or_else(|| self.loops.difference(&port.loops, "loops"))
     }
-}
-
-fn place<T: PartialEq + std::fmt::Debug>(what: &str, second: &[T], port: &[T]) -> Option<String> {
-    if second == port {
-        return None;
-    }
-    let at = second.iter().zip(port).position(|(a, b)| a != b)?;
-    let from_start = at as i64 - GUARD as i64;
-    Some(format!("{what} {from_start}: {:?} expected, {:?} found", second[at], port[at]))
 }
 
 /// The second reading's answer, and what it leaves.

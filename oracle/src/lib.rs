@@ -1,6 +1,7 @@
 //! The unchanged `qc_asm` as oracle of the port: rows and lists in document 01's shape go in,
 //! parcels, counts and refusals in document 01's numbers come out.
 
+pub mod bench;
 pub mod cases;
 pub mod every_row;
 pub mod huge;
@@ -15,7 +16,11 @@ pub mod reading;
 pub mod refusal;
 pub mod row;
 pub mod rows;
+#[cfg(feature = "same")]
+pub mod same;
+pub mod sample_benches;
 pub mod sample_lists;
 pub mod sample_rows;
+pub mod search;
 pub mod second;
 pub mod shrink;

@@ -1,63 +1,132 @@
-//! The port's exported functions, as its C interface has them.
+//! The port's exported functions, through its Rust crate: by the module for C, with the answers as
+//! they are, and by the plain interface, with its refusals turned back into such answers.
+
+use lhodrupesh::c;
+use lhodrupesh::plain::{self, Refusal};
 
 use crate::one::One;
 
-extern "C" {
-    fn lhodrupesh_instruction(row: *const u32, row_len: usize) -> One;
-}
-
 /// The port's one-instruction call.
 pub fn instruction(slice: &[u32]) -> One {
-    // SAFETY: the pointer and the length are those of a slice that outlives the call, and the
-    // call reads no more than it.
-    unsafe { lhodrupesh_instruction(slice.as_ptr(), slice.len()) }
+    let c::One { number, count, first, second, places } = c::instruction(slice);
+    One { number, count, first, second, places }
+}
+
+/// The same through the plain interface.
+pub fn plain_instruction(slice: &[u32]) -> One {
+    match plain::instruction(slice) {
+        Ok(parcels) => One::accepted(&parcels),
+        Err(refusal) => One::refused(of_plain(refusal)),
+    }
+}
+
+fn of_plain(refusal: Refusal) -> crate::refusal::Refusal {
+    let (first, second) = refusal.details();
+    crate::refusal::Refusal::with(refusal.number(), first, second)
+}
+
+#[cfg(any(feature = "build", feature = "counts", feature = "slots"))]
+mod lists {
+    use lhodrupesh::c;
+    use lhodrupesh::plain::{Name, Refusal};
+
+    use crate::second::Told;
+
+    pub fn told(told: c::Told) -> Told {
+        let c::Told { number, count, first, second, start, length } = told;
+        Told { number, count, first, second, start, length }
+    }
+
+    pub fn of_plain(answer: Result<usize, Refusal>) -> Told {
+        let refusal = match answer {
+            Ok(count) => return Told { count: count as u32, ..Told::default() },
+            Err(refusal) => refusal,
+        };
+        let Name { start, length } = match refusal {
+            Refusal::DuplicateLabel(name)
+            | Refusal::UndefinedLabel(name)
+            | Refusal::LabelInLoop(name) => name,
+            _ => Name { start: 0, length: 0 },
+        };
+        let (first, second) = refusal.details();
+        Told { number: refusal.number(), count: 0, first, second, start, length }
+    }
 }
 
 #[cfg(feature = "build")]
-pub use whole::build;
+pub mod whole {
+    use lhodrupesh::c;
+    use lhodrupesh::plain::{self, LoopRecord};
 
-#[cfg(feature = "build")]
-mod whole {
+    use super::lists::{of_plain, told};
     use crate::list::List;
-    use crate::second::{Lent, Told};
+    use crate::second::{Lent, Record, Told};
 
-    extern "C" {
-        fn lhodrupesh_build(
-            rows: *const u32,
-            rows_len: usize,
-            names: *const u8,
-            names_len: usize,
-            parcels: *mut u16,
-            parcels_len: usize,
-            labels: *mut u32,
-            labels_len: usize,
-            jumps: *mut u32,
-            jumps_len: usize,
-            loops: *mut u32,
-            loops_len: usize,
-        ) -> Told;
+    /// The port's build.
+    pub fn build(list: &List, lent: &mut Lent) -> Told {
+        let Lent { parcels, labels, jumps, loops } = lent;
+        told(c::build(&list.numbers, &list.names, parcels, labels, jumps, records(loops)))
     }
 
-    /// The port's build. Every length is one in numbers, the loop table's too.
-    pub fn build(list: &List, lent: &mut Lent) -> Told {
-        let loops = lent.loops.as_flattened_mut();
-        // SAFETY: each pointer and length are those of a slice that outlives the call; the lent
-        // ones are separate, and the call writes to no others.
-        unsafe {
-            lhodrupesh_build(
-                list.numbers.as_ptr(),
-                list.numbers.len(),
-                list.names.as_ptr(),
-                list.names.len(),
-                lent.parcels.as_mut_ptr(),
-                lent.parcels.len(),
-                lent.labels.as_mut_ptr(),
-                lent.labels.len(),
-                lent.jumps.as_mut_ptr(),
-                lent.jumps.len(),
-                loops.as_mut_ptr(),
-                loops.len(),
-            )
+    /// The same through the plain interface.
+    pub fn plain_build(list: &List, lent: &mut Lent) -> Told {
+        let Lent { parcels, labels, jumps, loops } = lent;
+        let mut lent = plain::Lent { parcels, labels, jumps, loops: records(loops) };
+        of_plain(plain::build(&list.numbers, &list.names, &mut lent))
+    }
+
+    /// The same memory as records of the port's type.
+    fn records(loops: &mut [Record]) -> &mut [LoopRecord] {
+        const { assert!(size_of::<Record>() == size_of::<LoopRecord>()) };
+        const { assert!(align_of::<Record>() == align_of::<LoopRecord>()) };
+        // SAFETY: both types are four 32-bit numbers in turn, and any number is good in each.
+        unsafe { std::slice::from_raw_parts_mut(loops.as_mut_ptr().cast(), loops.len()) }
+    }
+}
+
+/// Each answers twice: by the module for C and by the plain interface.
+#[cfg(feature = "counts")]
+pub mod counts {
+    use lhodrupesh::{c, plain};
+
+    use super::lists::{of_plain, told};
+    use crate::list::List;
+    use crate::second::Told;
+
+    pub fn parcels(List { numbers, names }: &List) -> [Told; 2] {
+        [told(c::parcel_count(numbers, names)), of_plain(plain::parcel_count(numbers, names))]
+    }
+
+    pub fn instructions(List { numbers, names }: &List) -> [Told; 2] {
+        let plain = plain::instruction_count(numbers, names);
+        [told(c::instruction_count(numbers, names)), of_plain(plain)]
+    }
+}
+
+/// Answers twice: by the module for C and by the plain interface.
+#[cfg(feature = "slots")]
+pub fn slot_check(list: &crate::list::List) -> [crate::second::Told; 2] {
+    let crate::list::List { numbers, names } = list;
+    let plain = plain::slot_check(numbers, names).map(|()| 0);
+    [lists::told(c::slot_check(numbers, names)), lists::of_plain(plain)]
+}
+
+/// Each takes parcels and lent bytes, and answers as C has it.
+#[cfg(feature = "bytes")]
+pub mod bytes {
+    use lhodrupesh::plain;
+
+    pub use lhodrupesh::c::{bytes as write, Written};
+
+    /// The same through the plain interface.
+    pub fn plain_write(parcels: &[u16], bytes: &mut [u8]) -> Written {
+        match plain::bytes(parcels, bytes) {
+            Ok(bytes) => Written { bytes: bytes as u64, ..Written::default() },
+            Err(refusal) => Written {
+                number: refusal.number(),
+                first: refusal.details().0,
+                ..Written::default()
+            },
         }
     }
 }

@@ -16,13 +16,13 @@ pub struct One {
 }
 
 impl One {
-    fn accepted(parcels: &[u16]) -> Self {
+    pub fn accepted(parcels: &[u16]) -> Self {
         let mut places = [0; 6];
         places[..parcels.len()].copy_from_slice(parcels);
         Self { number: 0, count: parcels.len() as u32, first: 0, second: 0, places }
     }
 
-    fn refused(refusal: Refusal) -> Self {
+    pub fn refused(refusal: Refusal) -> Self {
         Self {
             number: refusal.number,
             count: 0,

@@ -2,17 +2,14 @@
 //! most 512 items can meet, and both sides of its rules. A jump to a label or a loop that reaches
 //! too far (9, 21) takes over a million rows: those lists stand in `huge`.
 
+use crate::bench::{ITEMS, NAME_BYTES};
 use crate::list::{self, List};
 use crate::lists::some_list;
 use crate::random::Random;
 use crate::rows::{encodes, instruction_kinds};
 use crate::second::{self, Limits};
 
-/// What the bench program takes: the sample stays inside.
-const ITEMS: usize = 512;
-const NAME_BYTES: usize = 2048;
-
-/// The sample: lists in the bench program's lines, an empty line after each.
+/// The sample, inside what the bench program takes: lists in the bench program's lines, an empty line after each.
 pub fn sample() -> Vec<u8> {
     let mut text = Vec::new();
     for written in [edges(), labels(), loops(), tails(), order(), rows()].concat() {

@@ -56,6 +56,16 @@ pub struct Told {
     pub length: u32,
 }
 
+impl Told {
+    /// The answer of a call that counts, and names nothing.
+    pub fn of(counted: Result<usize, Refusal>) -> Self {
+        match counted {
+            Ok(count) => Self { count: count as u32, ..Self::default() },
+            Err(refusal) => told(refusal.into()),
+        }
+    }
+}
+
 /// A refusal, and the name that goes with it.
 #[derive(Debug, Clone, Copy)]
 struct Refused {

@@ -52,20 +52,19 @@ pub starred :
     × Gives ((50 ∷ 0 ∷ 16 ∷ 1 ∷ []) ∷ (39 ∷ []) ∷ (51 ∷ []) ∷ []) (0x0c00 ∷ 0x1080 ∷ 0x0003 ∷ 0x0000 ∷ 0x0000 ∷ 0x0000 ∷ [])
     × Refuses ((50 ∷ 0 ∷ 16 ∷ 1 ∷ []) ∷ (50 ∷ 0 ∷ 16 ∷ 1 ∷ []) ∷ (39 ∷ []) ∷ (51 ∷ []) ∷ (51 ∷ []) ∷ []) SharedLoopEnd
 unfolding fields compute boundsOf said placesOf checkOf madeMulti madeSingle inDag dmModify dmOffset jumpForm loopForm storeImmediate formOf parcelsOf verdictOf conditionOf modeOf aluOpOf countOf scalars transfers others instructionOf computeOf itemOf readOf
-starred =
-    (
-      (refl, refl),
-      (refl, refl),
-      (refl, refl),
-      (refl, refl),
-      (refl, refl),
-      (refl, refl),
-      (refl, refl),
-      (refl, refl),
-      (refl, refl),
-      (refl, refl),
-      refl,
-      (refl, refl),
-      (refl, refl),
-      refl,
-    )
+starred = (
+  (refl, refl),
+  (refl, refl),
+  (refl, refl),
+  (refl, refl),
+  (refl, refl),
+  (refl, refl),
+  (refl, refl),
+  (refl, refl),
+  (refl, refl),
+  (refl, refl),
+  refl,
+  (refl, refl),
+  (refl, refl),
+  refl,
+)

@@ -132,7 +132,14 @@ fn checked(verdict: Verdict) -> Told
 
 // The build: its answer in numbers, and what it leaves in the lent buffers; a loop record is four numbers.
 #[no_mangle]
-pub extern "C" fn lhodrupesh_build(rows: &[u32], names: &[u8], parcels: &mut [u16], labels: &mut [u32], jumps: &mut [u32], loops: &mut [u32]) -> Told
+pub extern "C" fn lhodrupesh_build(
+    rows: &[u32],
+    names: &[u8],
+    parcels: &mut [u16],
+    labels: &mut [u32],
+    jumps: &mut [u32],
+    loops: &mut [u32],
+) -> Told
     ensures { λ r. ⌜ Built (buildOf (now (rows .entry)) (now (names .entry)) (now (parcels .entry)) (now (labels .entry)) (now (jumps .entry)) (now (loops .entry))) r (now (parcels .exit)) (now (labels .exit)) (now (jumps .exit)) (now (loops .exit)) ⌝ }
 {
     answered(build::build(rows, names, parcels, labels, jumps, loops))

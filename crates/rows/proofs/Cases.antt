@@ -5,9 +5,9 @@ use mathlib.Core.List.{List}
 use mathlib.Core.Bool.{Bool, true, false, cond}
 use mathlib.Core.Path.{_≡_, refl}
 use borrow.Author.Tests.{leb-true}
-use lib.Dec.{leb, eqb}
+use lib.Dec.{eqb}
 use Rattle.bounds.specs.Tables.{at}
-use Rattle.bounds.specs.Checks.{checkOf, placesOf, settled, within, inside}
+use Rattle.bounds.specs.Checks.{checkOf, placesOf, settled, nameInside, inside}
 use Rattle.bounds.specs.declared.Places.{Places}
 use Rattle.bounds.specs.declared.Places.the-variants.{Fine, Bad, Code}
 use Rattle.computes.specs.declared.Made.{Made}
@@ -73,7 +73,7 @@ module _ (P : Read → Type 0) (refused : (r : Refusal) → P (Refused r)) (inst
           either (eqb kind 32) _ _ (of-compute (computeOf row))
           (either (eqb kind 33) _ _ (of-dual (dmOf row) (pmOf row) (besideOf row))
           (either (eqb kind 34) _ _ (of-memory (accessOf row) (besideOf row))
-          (chosen (eqb kind 48) (eqb kind 49) (within a b names) (within b c names) _ _ _
+          (chosen (eqb kind 48) (eqb kind 49) (nameInside a b names) (nameInside b c names) _ _ _
           (λ t. label a b (leb-true _ _ t)) (λ t. jump a b c (leb-true _ _ t))
           (either (eqb kind 50) _ _ (begin a b c) (either (eqb kind 51) _ _ end (instruction (instructionOf kind a b c)))) e)))
 

@@ -5,7 +5,6 @@ use mathlib.Core.Bool.{Bool, true, false, cond}
 use mathlib.Core.Path.{_≡_}
 use native.Mathlib.Nat.{mod-lt}
 use lib.Dec.{eqb, lit<}
-use Rattle.registers.specs.declared.UniversalRegister.{UniversalRegister}
 use Rattle.items.specs.declared.LoopMode.{LoopMode}
 use Rattle.items.specs.declared.LoopCount.{LoopCount}
 use Rattle.items.specs.declared.LoopCount.the-variants.{Immediate, Register}

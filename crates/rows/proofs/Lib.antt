@@ -2,3 +2,4 @@ pub mod Cases
 pub mod Named
 pub mod Counted
 pub mod Limit
+pub mod Readings

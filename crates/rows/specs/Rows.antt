@@ -12,12 +12,10 @@ use Rattle.computes.specs.declared.Made.the-variants as made
 use Rattle.refusals.specs.declared.Verdict.{Verdict}
 use Rattle.refusals.specs.declared.Verdict.the-variants as verdict
 use Rattle.refusals.specs.declared.Refusal.the-variants.{NotACompute}
-use Rattle.items.specs.declared.OptionalCompute.{OptionalCompute}
 use Rattle.items.specs.declared.OptionalCompute.the-variants.{Nothing, Held}
 use Rattle.items.specs.declared.FloatMulAlu.{FloatMulAlu}
 use Rattle.items.specs.declared.DataAccess.{DataAccess}
 use Rattle.items.specs.declared.MemoryAccess.{MemoryAccess}
-use Rattle.items.specs.declared.VisaInstruction.{VisaInstruction}
 use Rattle.items.specs.declared.VisaInstruction.the-variants as visa
 use Rattle.items.specs.declared.Item.the-variants as item
 use Rattle.rows.specs.declared.Read.{Read}

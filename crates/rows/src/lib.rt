@@ -4,7 +4,6 @@ ghost use Prim.Native.Nat.{_+_, _*_, _<_, _≤_};
 ghost use lib.ListN.{length, take, drop};
 ghost use Rattle.rows.specs.Fields.{conditionOf, directionOf, updateOf, aluOpOf, modeOf, countOf, scalarOf, transferOf, otherOf, instructionOf};
 ghost use Rattle.rows.specs.Rows.{wellFormed, multiOf, singleOf, computeOf, besideOf, dataAccessOf, memoryAccessOf, computeItem, dualMove, memoryMove, itemOf, readOf};
-ghost use Rattle.bounds.specs.Tables.{at};
 use computes::Made;
 use items::AluOp;
 use items::Condition;

@@ -1,19 +1,25 @@
-//! Answers rows and lists on standard input as the unchanged Rust does, in document 01's words.
+//! Answers rows and lists on standard input as the unchanged Rust does, in document 01's words, and
+//! inputs of the bench program as document 01 has it answer them.
 
 use std::io::{self, Read, Write};
 use std::process::ExitCode;
 
+use visa_oracle::bench;
 use visa_oracle::judge;
 use visa_oracle::list;
 use visa_oracle::one::one;
 use visa_oracle::row;
 
-const USAGE: &str = "usage: oracle rows <ROWS  |  oracle lists <LISTS";
+const USAGE: &str =
+    "usage: oracle rows <ROWS  |  oracle lists <LISTS  |  oracle bench <KERNEL  |  \
+                     oracle benches <KERNELS";
 
 fn main() -> ExitCode {
     let answered = match std::env::args().skip(1).collect::<Vec<_>>().as_slice() {
         [mode] if mode == "rows" => input().and_then(|text| rows(&text)),
         [mode] if mode == "lists" => input().and_then(|text| lists(&text)),
+        [mode] if mode == "bench" => input().map(|text| bench::text(&text)),
+        [mode] if mode == "benches" => input().and_then(|text| benches(&text)),
         _ => Err(USAGE.to_string()),
     };
     match answered.and_then(|answers| print(&answers)) {
@@ -56,4 +62,11 @@ fn lists(text: &[u8]) -> Result<String, String> {
         answers.push('\n');
     }
     Ok(answers)
+}
+
+/// The text that the bench program prints for each input, with its end.
+fn benches(text: &[u8]) -> Result<String, String> {
+    let answers = bench::inputs(text)?.into_iter();
+    let answers = answers.flat_map(|input| bench::ended(bench::text(input).as_bytes()));
+    String::from_utf8(answers.collect()).map_err(|error| error.to_string())
 }

@@ -1,35 +1,50 @@
-//! Prints the stored samples: rows for `oracle rows`, lists for `oracle lists`.
+//! Prints the stored samples: rows for `oracle rows`, lists for `oracle lists`, inputs of the bench
+//! program for `oracle benches`.
 
 use std::io::{self, BufWriter, Write};
 use std::process::ExitCode;
 
+use visa_oracle::bench;
 use visa_oracle::row;
+use visa_oracle::sample_benches;
 use visa_oracle::sample_lists;
 use visa_oracle::sample_rows;
 
+const USAGE: &str = "usage: sample rows  |  sample lists  |  sample benches [KERNEL-FILE...]";
+
 fn main() -> ExitCode {
-    let mode = std::env::args().nth(1).unwrap_or_default();
-    let mut out = BufWriter::new(io::stdout().lock());
-    let written = match mode.as_str() {
-        "rows" => rows(&mut out),
-        "lists" => out.write_all(&sample_lists::sample()),
-        _ => {
-            eprintln!("usage: sample rows  |  sample lists");
-            return ExitCode::from(2);
-        }
+    let words: Vec<String> = std::env::args().skip(1).collect();
+    let text = match words.iter().map(String::as_str).collect::<Vec<_>>().as_slice() {
+        ["rows"] => Ok(rows()),
+        ["lists"] => Ok(sample_lists::sample()),
+        ["benches", files @ ..] => benches(files),
+        _ => Err(USAGE.to_string()),
     };
-    match written.and_then(|()| out.flush()) {
+    match text.and_then(|text| print(&text)) {
         Ok(()) => ExitCode::SUCCESS,
-        Err(error) => {
-            eprintln!("sample: standard output: {error}");
+        Err(message) => {
+            eprintln!("sample: {message}");
             ExitCode::from(2)
         }
     }
 }
 
-fn rows(out: &mut impl Write) -> io::Result<()> {
-    for row in sample_rows::sample() {
-        writeln!(out, "{}", row::write(&row))?;
+fn print(text: &[u8]) -> Result<(), String> {
+    let mut out = BufWriter::new(io::stdout().lock());
+    let written = out.write_all(text).and_then(|()| out.flush());
+    written.map_err(|error| format!("standard output: {error}"))
+}
+
+fn rows() -> Vec<u8> {
+    let lines = sample_rows::sample().into_iter().map(|row| row::write(&row) + "\n");
+    lines.collect::<String>().into_bytes()
+}
+
+/// The sample's inputs, then what the files hold.
+fn benches(files: &[&str]) -> Result<Vec<u8>, String> {
+    let mut inputs = sample_benches::sample();
+    for file in files {
+        inputs.push(std::fs::read(file).map_err(|error| format!("{file}: {error}"))?);
     }
-    Ok(())
+    Ok(inputs.iter().flat_map(|input| bench::ended(input)).collect())
 }

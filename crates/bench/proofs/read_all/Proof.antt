@@ -1,12 +1,10 @@
-use Rattle.reader.specs.Steps.{HasSome}
-use lib.ListN.{length}
+-- Some input has been read at each turn, and a read less is left.
 use mathlib.Core.Path.{_≡_, refl}
+use lib.ListN.{length}
 use borrow.Author.Needs.{needs}
+use Rattle.reader.specs.Steps.{HasSome}
 use Rattle.bench.proofs.read_all.Statement.{statement}
 use Rattle.bench.proofs.read_all.Tie as tie
-use Rattle.bench.proofs.read_all.Reads as reads
-use Rattle.bench.proofs.read_all.Lts as lts
-use Rattle.bench.proofs.read_some.Reads as read-some-reads
 
 abbrev Inv-loop : tie.InvT-loop
 Inv-loop buf₀ rows₀ names₀ s₀ left₀ buf rows names s left = HasSome s rows names × (length buf ≡ length buf₀)
@@ -14,27 +12,21 @@ Inv-loop buf₀ rows₀ names₀ s₀ left₀ buf rows names s left = HasSome s 
 abbrev μ-loop : tie.MeasureT-loop
 μ-loop buf₀ rows₀ names₀ s₀ left₀ buf rows names s left = left
 
--- src/main.rt:44:5
 loop-holds : tie.Need-loop-holds Inv-loop μ-loop
 loop-holds c = (c .before .pre, refl)
 
--- src/main.rt:45:13
 read-some-requires : tie.Need-read-some-requires Inv-loop μ-loop
 read-some-requires c κs = (c .before .before .before .before .loop .inv .0, c .before .before .before .loop-test .taken)
 
--- src/main.rt:44:5
 loop-less : tie.Need-loop-less Inv-loop μ-loop
 loop-less c = c .before .before .before .read-some .ensures .1
 
--- src/main.rt:44:5
 loop-again : tie.Need-loop-again Inv-loop μ-loop
 loop-again c = (c .before .before .before .read-some .ensures .0, search needs)
 
--- src/main.rt:38:1
 same-length : tie.Need-same-length Inv-loop μ-loop
 same-length c = c .before .loop .inv .1
 
--- src/main.rt:38:1
 returns : tie.Need-returns Inv-loop μ-loop
 returns c = c .before .loop .inv .0
 

@@ -24,7 +24,7 @@ same-length-4 : tie.Need-same-length-4
 same-length-4 c = search needs
 
 returns : tie.Need-returns
-returns c = 
+returns c =
     let built = c .before .before .before .before .before .before .before .before .before .build .ensures in
     record {
       answer = c .answered .ensures ∙ ap answeredAs (built .answer);

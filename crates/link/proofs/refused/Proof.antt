@@ -10,7 +10,7 @@ told-requires : tie.Need-told-requires
 told-requires c κs = search needs
 
 returns : tie.Need-returns
-returns c = 
+returns c =
     let told = c .before .told .result in
     let first : toZ w64 (ofZ w64 (told .first)) ≡ told .first = search needs in
     let second : toZ w64 (ofZ w64 (told .second)) ≡ told .second = search needs in

@@ -1,32 +1,24 @@
-use Rattle.printed.proofs.Saying.{take-least}
-use lib.Seq.{length-take-le}
-use native.Mathlib.Omega.{arith}
+-- As many parcels as the count says, or all.
 use mathlib.Core.Path.{sym}
+use native.Mathlib.Omega.{arith}
+use lib.Seq.{length-take-le}
 use borrow.Author.Needs.{needs}
+use Rattle.printed.proofs.Saying.{take-least}
 use Rattle.printed.proofs.accepted.Statement.{statement}
 use Rattle.printed.proofs.accepted.Tie as tie
-use Rattle.printed.proofs.accepted.Reads as reads
-use Rattle.printed.proofs.accepted.Lts as lts
-use Rattle.printed.proofs.least.Reads as least-reads
-use Rattle.text.proofs.accepted.Reads as accepted-reads
 
--- src/lib.rt:25:9
 least-requires : tie.Need-least-requires
 least-requires c κs = search needs
 
--- src/lib.rt:26:23
 slice-aggregate-accepted : tie.Need-slice-aggregate-accepted
 slice-aggregate-accepted c = sym (length-take-le _ _ (c .before .least .ensures .1))
 
--- src/lib.rt:26:5
 accepted-requires : tie.Need-accepted-requires
 accepted-requires c κs = (rw (length-take-le _ _ (c .before .before .least .ensures .1)) (omega (arith, c .before .before .least .ensures .1, c .before .before .before .before .before .pre .0)), c .before .before .before .before .before .pre .1)
 
--- src/lib.rt:21:1
 same-length : tie.Need-same-length
 same-length c = search needs
 
--- src/lib.rt:21:1
 returns : tie.Need-returns
 returns c = rw (c .before .before .before .before .before .least .ensures .0, take-least) at (c .before .before .accepted .ensures)
 

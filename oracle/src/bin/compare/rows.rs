@@ -1,66 +1,110 @@
 //! The one-instruction call of the port against the Rust.
 
+use std::thread;
+
 use visa_oracle::every_row;
 use visa_oracle::linked;
 use visa_oracle::one::{one, One, NO_ROWS};
 use visa_oracle::random::Random;
 use visa_oracle::row::{Row, WIDTH};
 use visa_oracle::rows::some_row;
+use visa_oracle::search::Search;
 
 use crate::options::Options;
 
-const PROGRESS: u64 = 2_000_000;
+const PROGRESS: u64 = 1_000_000;
+/// One of so many is few.
+const FEW: u64 = 32;
 
-/// A slice on which the two disagree.
-struct Difference {
-    slice: Vec<u32>,
-    case: String,
+/// Compares every row of `every_row`, then random ones. Whether there was no difference. In a short
+/// run few of the full lists' rows go through the Rust crate's types.
+pub fn compare(options: &Options, count: u64) -> bool {
+    let seed = options.seed;
+    let (full, found) = full_lists(options);
+    eprintln!("compare rows: {full} rows of the full lists");
+    let found = found.map(|row| (row, "a row of the full lists".to_string())).or_else(|| {
+        let search = Search { what: "compare rows", count, jobs: options.jobs, progress: PROGRESS };
+        let found = search.first(|case| differs(&some_slice(seed, case)).then_some(()));
+        found.map(|(case, ())| (some_slice(seed, case), format!("seed {seed}, case {case}")))
+    });
+    if let Some((slice, case)) = found {
+        report(slice, &case);
+        return false;
+    }
+    println!("compare rows: {} rows compared, seed {seed}, no difference", full + count);
+    true
 }
 
-/// Compares every row of `every_row`, then random ones. Whether there was no difference.
-pub fn compare(options: &Options) -> bool {
-    let mut run = Run::default();
-    every_row::each(&mut |row: &Row| run.check(row, || "a row of the full lists".to_string()));
-    eprintln!("compare rows: {} rows of the full lists", run.compared);
-    for case in 0..options.count {
-        if run.found.is_some() {
-            break;
-        }
-        let slice = some_slice(options.seed, case);
-        run.check(&slice, || format!("seed {}, case {case}", options.seed));
-    }
-    let agreed = run.found.is_none();
-    if let Some(difference) = &run.found {
-        report(difference);
-    }
-    let verdict = if agreed { "no difference" } else { "a difference" };
-    println!("compare rows: {} rows compared, seed {}, {verdict}", run.compared, options.seed);
-    agreed
+/// How many rows `every_row` has, and the first that differs.
+fn full_lists(options: &Options) -> (u64, Option<Vec<u32>>) {
+    let Options { short, jobs, .. } = *options;
+    let shares = thread::scope(|scope| {
+        let start = |turn| scope.spawn(move || share(short, jobs, turn));
+        let shares: Vec<_> = (0..jobs).map(start).collect();
+        shares.into_iter().map(|share| share.join().expect("a share that ends")).collect::<Vec<_>>()
+    });
+    let count = shares[0].count;
+    let found =
+        shares.into_iter().filter_map(|share| share.found).min_by_key(|(number, _)| *number);
+    (count, found.map(|(_, row)| row))
 }
 
+/// The rows of one thread: every one whose turn it is, up to the first that differs.
 #[derive(Default)]
-struct Run {
-    compared: u64,
-    /// The first difference.
-    found: Option<Difference>,
+struct Share {
+    count: u64,
+    found: Option<(u64, Vec<u32>)>,
 }
 
-impl Run {
-    fn check(&mut self, slice: &[u32], case: impl Fn() -> String) {
-        if self.found.is_some() {
-            return;
+fn share(short: bool, jobs: u64, turn: u64) -> Share {
+    let mut share = Share::default();
+    every_row::each(&mut |row: &Row| {
+        let number = share.count;
+        share.count += 1;
+        if share.found.is_none() && number % jobs == turn {
+            let few = short && number / jobs % FEW != 0;
+            let difference = if few { call_difference(row) } else { difference(row) };
+            share.found = difference.map(|_| (number, row.to_vec()));
         }
-        self.compared += 1;
-        if differs(slice) {
-            self.found = Some(Difference { slice: slice.to_vec(), case: case() });
-        } else if self.compared % PROGRESS == 0 {
-            eprintln!("compare rows: {} rows so far", self.compared);
-        }
-    }
+    });
+    share
 }
 
 fn differs(slice: &[u32]) -> bool {
-    linked::instruction(slice) != one(slice)
+    difference(slice).is_some()
+}
+
+/// How the port differs from what is expected of this slice.
+fn difference(slice: &[u32]) -> Option<String> {
+    call_difference(slice).or_else(|| same(slice))
+}
+
+/// How the one-instruction call differs, by C and through the plain interface.
+fn call_difference(slice: &[u32]) -> Option<String> {
+    let expected = one(slice);
+    let by_c = linked::instruction(slice);
+    if by_c != expected {
+        return Some(format!("{}\n  expected, {}\n  found", told(&expected), told(&by_c)));
+    }
+    let by_plain = linked::plain_instruction(slice);
+    if by_plain != expected {
+        return Some(format!("the plain interface finds {}", told(&by_plain)));
+    }
+    None
+}
+
+/// How the port's Rust crate differs from the Rust.
+#[cfg(feature = "same")]
+fn same(slice: &[u32]) -> Option<String> {
+    use visa_oracle::same::{port, rust};
+    let row = slice.try_into().ok()?;
+    let (expected, found) = (rust::single(row), port::single(row));
+    (found != expected).then(|| format!("the Rust's types give {expected:?}, the port's {found:?}"))
+}
+
+#[cfg(not(feature = "same"))]
+fn same(_: &[u32]) -> Option<String> {
+    None
 }
 
 /// A random row, and now and then a slice that is none.
@@ -77,18 +121,16 @@ fn some_slice(seed: u64, case: u64) -> Vec<u32> {
     rows.take(length).collect()
 }
 
-fn report(difference: &Difference) {
-    let slice = smallest(difference.slice.clone());
-    println!("a difference, {}:", difference.case);
-    print_case("met", &difference.slice);
-    print_case("smallest", &slice);
+fn report(slice: Vec<u32>, case: &str) {
+    println!("a difference, {case}:");
+    print_case("met", &slice);
+    print_case("smallest", &smallest(slice));
 }
 
 fn print_case(what: &str, slice: &[u32]) {
     let numbers: Vec<String> = slice.iter().map(u32::to_string).collect();
     println!("{what}, {} numbers:\t{}", slice.len(), numbers.join("\t"));
-    println!("  the Rust:\t{}", told(&one(slice)));
-    println!("  the port:\t{}", told(&linked::instruction(slice)));
+    println!("  {}", difference(slice).unwrap_or_default());
 }
 
 fn told(one: &One) -> String {

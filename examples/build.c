@@ -1,0 +1,108 @@
+/*
+ * Builds a small kernel through the C interface and prints its parcels and bytes; then one whose
+ * jump leads nowhere, and prints the refusal with its name.
+ */
+#include <inttypes.h>
+#include <stdio.h>
+
+#include "lhodrupesh.h"
+
+#define LENGTH(array) (sizeof(array) / sizeof((array)[0]))
+#define NUMBERS(rows) (LENGTH(rows) * LHODRUPESH_ROW)
+
+static const uint8_t names[] = "topend";
+
+/* Count R1 down while it isn't zero, then go on. */
+static const uint32_t count_down[][LHODRUPESH_ROW] = {
+    {48, 0, 3},    /* label "top" */
+    {25, 1, 1},    /* IntegerSubOne: R1 = R1 - 1 */
+    {49, 1, 0, 3}, /* jump to "top" unless equal */
+    {38},          /* Nop */
+};
+
+/* A loop, and a jump to a label that isn't there. */
+static const uint32_t astray[][LHODRUPESH_ROW] = {
+    {50, 0, 16, 1}, /* loop start: 16 times, F1 */
+    {39},           /* WideNop */
+    {51},           /* loop end */
+    {49, 5, 3, 3},  /* jump to "end" always */
+};
+
+static uint16_t parcels[64];
+static uint32_t labels[8 * LHODRUPESH_LABEL_ENTRY];
+static uint32_t jumps[8 * LHODRUPESH_JUMP_ENTRY];
+static lhodrupesh_loop loops[4 * LHODRUPESH_LOOP_RECORD];
+
+static struct lhodrupesh_told build(const uint32_t *rows, size_t rows_len)
+{
+    return lhodrupesh_build(rows, rows_len, names, sizeof names - 1, parcels, LENGTH(parcels),
+                            labels, LENGTH(labels), jumps, LENGTH(jumps), loops, LENGTH(loops));
+}
+
+static void print_parcels(uint32_t count)
+{
+    printf("%" PRIu32 " parcels:", count);
+    for (uint32_t place = 0; place < count; place++)
+        printf(" %04x", (unsigned)parcels[place]);
+    printf("\n");
+}
+
+static void print_bytes(uint32_t count)
+{
+    uint8_t bytes[2 * LENGTH(parcels)];
+    struct lhodrupesh_written written = lhodrupesh_bytes(parcels, count, bytes, sizeof bytes);
+
+    printf("%" PRIu64 " bytes:", written.bytes);
+    for (uint64_t place = 0; place < written.bytes; place++)
+        printf(" %02x", (unsigned)bytes[place]);
+    printf("\n");
+}
+
+static void print_counts(const uint32_t *rows, size_t rows_len)
+{
+    struct lhodrupesh_told parcel_count =
+        lhodrupesh_parcel_count(rows, rows_len, names, sizeof names - 1);
+    struct lhodrupesh_told instruction_count =
+        lhodrupesh_instruction_count(rows, rows_len, names, sizeof names - 1);
+    struct lhodrupesh_told slots = lhodrupesh_slot_check(rows, rows_len, names, sizeof names - 1);
+
+    printf("%" PRIu32 " instructions in %" PRIu32 " parcels, slot check %" PRIu32 "\n",
+           instruction_count.count, parcel_count.count, slots.number);
+}
+
+static void print_refusal(struct lhodrupesh_told told)
+{
+    printf("refused %" PRIu32 ", details %" PRId64 " and %" PRId64 ", name \"%.*s\"\n",
+           told.number, told.first, told.second, (int)told.length,
+           (const char *)names + told.start);
+}
+
+static void print_built(const uint32_t *rows, size_t rows_len)
+{
+    struct lhodrupesh_told told = build(rows, rows_len);
+
+    if (told.number != 0) {
+        print_refusal(told);
+        return;
+    }
+    print_parcels(told.count);
+    print_bytes(told.count);
+}
+
+static void print_one(const uint32_t *row)
+{
+    struct lhodrupesh_one one = lhodrupesh_instruction(row, LHODRUPESH_ROW);
+
+    printf("kind %" PRIu32 " alone: number %" PRIu32 ", %" PRIu32 " parcels, the first %04x\n",
+           row[0], one.number, one.count, (unsigned)one.places[0]);
+}
+
+int main(void)
+{
+    print_one(count_down[1]);
+    print_built(count_down[0], NUMBERS(count_down));
+    print_counts(count_down[0], NUMBERS(count_down));
+    print_counts(astray[0], NUMBERS(astray));
+    print_built(astray[0], NUMBERS(astray));
+    return 0;
+}

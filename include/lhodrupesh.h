@@ -1,0 +1,150 @@
+/*
+ * Lhodrupesh: SHARC+ VISA kernels from rows of numbers. The C interface of the proved library
+ * liblink.a, for x86-64 Linux.
+ *
+ * Every call takes any numbers, ends, and refuses bad ones by number. It allocates nothing, keeps no
+ * pointer, and touches no memory but what its arguments lend.
+ *
+ * SLICES. A slice is a pointer and a length; every length is counted in elements. The caller sees
+ * to this, and to nothing else:
+ *   - the pointer isn't NULL and is aligned for its elements, also where the length is 0;
+ *   - so many elements lie there, and nobody else writes to them during the call;
+ *   - what a call writes to (parcels, labels, jumps, loops; bytes) overlaps no other slice of it.
+ * What is lent to be written to may hold anything before.
+ *
+ * ROWS. A row is seventeen numbers: a kind, then the fields, then zeros. Signed fields are two's
+ * complement; enumerated values are numbered from 0; booleans are 0 or 1. The README of the
+ * repository has the table of kinds. A row slice is rows one after the other, at most 4,194,304.
+ *
+ * NAMES. The names of labels and jumps are ranges (start, length) of one byte slice: any bytes,
+ * possibly empty, equal when the bytes are.
+ *
+ * REFUSALS. The README has the table of refusal numbers and their details. Details that the table
+ * doesn't name are 0. Rows and parcels are numbered from 0.
+ */
+#ifndef LHODRUPESH_H
+#define LHODRUPESH_H
+
+#include <stddef.h>
+#include <stdint.h>
+
+#ifdef __cplusplus
+extern "C" {
+#endif
+
+/* The numbers of a row, of a label entry (start, length, place) and of a waiting jump (place, row). */
+#define LHODRUPESH_ROW 17
+#define LHODRUPESH_LABEL_ENTRY 3
+#define LHODRUPESH_JUMP_ENTRY 2
+
+/* The most that a call uses, whatever is lent. */
+#define LHODRUPESH_MOST_ROWS 4194304
+#define LHODRUPESH_MOST_PARCELS 16777216
+#define LHODRUPESH_MOST_LABELS 4096
+#define LHODRUPESH_MOST_JUMPS 4096
+#define LHODRUPESH_MOST_LOOPS 64
+
+/*
+ * The elements of the lent loop table, and how many make a record (place, first body entry, count,
+ * mode). A table of n records is an array of n * LHODRUPESH_LOOP_RECORD elements.
+ */
+typedef uint32_t lhodrupesh_loop;
+#define LHODRUPESH_LOOP_RECORD 4
+
+/* What a call on a list answers. */
+struct lhodrupesh_told {
+    uint32_t number; /* 0: accepted. Else the refusal's number */
+    uint32_t count;  /* accepted: parcels or instructions, 0 in the slot check. Refused: 0 */
+    int64_t first;   /* the refusal's first detail */
+    int64_t second;  /* the refusal's second detail */
+    uint32_t start;  /* refusals 11, 12 and 28: the refused row's own name, */
+    uint32_t length; /* as a range of the lent names. Else 0 and 0 */
+};
+
+/* What the one-instruction call answers. */
+struct lhodrupesh_one {
+    uint32_t number;    /* 0: accepted. Else the refusal's number */
+    uint32_t count;     /* accepted: how many parcels, 1 to 6. Refused: 0 */
+    int64_t first;      /* the refusal's first detail */
+    int64_t second;     /* the refusal's second detail */
+    uint16_t places[6]; /* accepted: the parcels, then zeros. Refused: zeros */
+};
+
+/* What parcels to bytes answers. */
+struct lhodrupesh_written {
+    uint64_t bytes;  /* accepted: how many bytes were written. Refused: 0 */
+    int64_t first;   /* refused: the bytes lent */
+    uint32_t number; /* 0: accepted. 34: bytes fewer than twice the parcels; nothing written */
+    uint32_t spare;  /* 0 */
+};
+
+/*
+ * One instruction's parcels.
+ *   row, row_len   a row. A slice that isn't 17 long is refusal 1, kinds 48 to 51 are 2
+ */
+struct lhodrupesh_one lhodrupesh_instruction(const uint32_t *row, size_t row_len);
+
+/*
+ * The build of a list: number 0 and the parcel count, or a refusal with count 0.
+ *   rows, rows_len         the row slice. Not a multiple of 17, or over the limit: refusal 1
+ *   names, names_len       the names that the rows' ranges lie in
+ *   parcels, parcels_len   room for parcels
+ *   labels, labels_len     room for label entries: the length over 3, rounded down
+ *   jumps, jumps_len       room for waiting jumps: the length over 2, rounded down
+ *   loops, loops_len       room for open loops: the length over LHODRUPESH_LOOP_RECORD, rounded down
+ *
+ * Accepted: the parcels stand at the front; the labels (start, length, place) and jumps (place, row)
+ * stand in item order at the front of theirs; the loop records that were used are zero. Refused:
+ * zeros stand in the parcels, label entries and jump entries that the rows before the refused one
+ * took (all rows for 23, 12 and a labelled jump's 9), and in the loop records up to their deepest
+ * nesting. All else is unchanged.
+ */
+struct lhodrupesh_told lhodrupesh_build(const uint32_t *rows, size_t rows_len,
+                                        const uint8_t *names, size_t names_len,
+                                        uint16_t *parcels, size_t parcels_len,
+                                        uint32_t *labels, size_t labels_len,
+                                        uint32_t *jumps, size_t jumps_len,
+                                        lhodrupesh_loop *loops, size_t loops_len);
+
+/*
+ * How many parcels a list takes. Refused: 1; in the first row that has either, the row refusal (2, 4,
+ * and 17 to 19 from compute construction), then what keeps its instruction from encoding. The rules
+ * of labels, jumps and loops are ignored.
+ *   rows, rows_len     the row slice
+ *   names, names_len   the names that the rows' ranges lie in
+ */
+struct lhodrupesh_told lhodrupesh_parcel_count(const uint32_t *rows, size_t rows_len,
+                                               const uint8_t *names, size_t names_len);
+
+/*
+ * How many instructions a list has: labels and loop ends are none, a LeafReturn is four. Refused: 1
+ * and row refusals.
+ *   rows, rows_len     the row slice
+ *   names, names_len   the names that the rows' ranges lie in
+ */
+struct lhodrupesh_told lhodrupesh_instruction_count(const uint32_t *rows, size_t rows_len,
+                                                    const uint8_t *names, size_t names_len);
+
+/*
+ * Whether the next two items after each delayed JumpRelative and each CJump exist and are
+ * instruction items (kinds 0 to 39) other than JumpRelative, CJump and LeafReturn. Refused: 1, then
+ * the first row refusal, then 33 for the first such jump, its row the detail.
+ *   rows, rows_len     the row slice
+ *   names, names_len   the names that the rows' ranges lie in
+ */
+struct lhodrupesh_told lhodrupesh_slot_check(const uint32_t *rows, size_t rows_len,
+                                             const uint8_t *names, size_t names_len);
+
+/*
+ * Parcels to bytes, low byte first. Nothing is changed past twice the number of parcels.
+ *   parcels, parcels_len   the parcels
+ *   bytes, bytes_len       room for the bytes
+ */
+struct lhodrupesh_written lhodrupesh_bytes(const uint16_t *parcels, size_t parcels_len,
+                                           uint8_t *bytes, size_t bytes_len);
+
+#ifdef __cplusplus
+}
+#endif
+
+#endif

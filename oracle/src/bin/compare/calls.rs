@@ -1,0 +1,202 @@
+//! The port's calls on a list, each against what is expected of it. Those that the library lacks
+//! are left out.
+
+use visa_oracle::cases::Case;
+
+use crate::lists::Tally;
+
+/// How a call differs on this case.
+type Check = fn(&Case, &Tally) -> Option<String>;
+
+/// Each call, by what it is called in a report.
+pub const CALLS: &[(&str, Check)] = &[
+    #[cfg(feature = "build")]
+    ("build", build::difference),
+    #[cfg(feature = "counts")]
+    ("counts", counts::difference),
+    #[cfg(feature = "slots")]
+    ("slot check", slots::difference),
+    #[cfg(feature = "bytes")]
+    ("bytes", bytes::difference),
+    #[cfg(feature = "same")]
+    ("the Rust crate", same::difference),
+];
+
+/// What the library that was linked lacks.
+pub const LACKING: &[&str] = &[
+    #[cfg(not(feature = "build"))]
+    "lhodrupesh_build",
+    #[cfg(not(feature = "counts"))]
+    "lhodrupesh_parcel_count or lhodrupesh_instruction_count",
+    #[cfg(not(feature = "slots"))]
+    "lhodrupesh_slot_check",
+    #[cfg(not(feature = "bytes"))]
+    "lhodrupesh_bytes",
+];
+
+#[allow(dead_code)]
+fn unlike<T: PartialEq + std::fmt::Debug>(expected: T, found: T) -> Option<String> {
+    (found != expected).then(|| format!("{expected:?}\n  expected, {found:?}\n  found"))
+}
+
+#[cfg(feature = "build")]
+mod build {
+    use std::sync::atomic::Ordering::Relaxed;
+
+    use visa_oracle::cases::{self, Buffers, Case};
+    use visa_oracle::judge;
+    use visa_oracle::linked::whole;
+    use visa_oracle::list::List;
+    use visa_oracle::second::{Lent, Told};
+
+    use super::unlike;
+    use crate::lists::Tally;
+
+    /// Answer, every place of every lent buffer and the guards around them; then the Rust's word.
+    pub fn difference(case: &Case, tally: &Tally) -> Option<String> {
+        let (expected, left) = cases::second(case);
+        let (told, mut found) = answer(case, whole::build);
+        let (plain_told, plain_found) = answer(case, whole::plain_build);
+        unlike(expected, told)
+            .or_else(|| unlike(expected, plain_told))
+            .or_else(|| left.difference(&found))
+            .or_else(|| left.difference(&plain_found))
+            .or_else(|| rust_difference(case, &told, found.parcels.lent(), tally))
+    }
+
+    fn rust_difference(case: &Case, told: &Told, parcels: &[u16], tally: &Tally) -> Option<String> {
+        let program = judge::program(&case.list, told)?;
+        tally.asked.fetch_add(1, Relaxed);
+        judge::difference(&program, &case.list.names, told, parcels)
+    }
+
+    /// The port's answer, and what it leaves.
+    fn answer(case: &Case, build: fn(&List, &mut Lent) -> Told) -> (Told, Buffers) {
+        let mut buffers = Buffers::new(&case.lengths);
+        let told = build(&case.list, &mut buffers.lent());
+        (told, buffers)
+    }
+}
+
+#[cfg(feature = "counts")]
+mod counts {
+    use visa_oracle::cases::Case;
+    use visa_oracle::linked::counts;
+    use visa_oracle::second::{self, Limits, Told};
+
+    use super::unlike;
+    use crate::lists::Tally;
+
+    pub fn difference(case: &Case, _: &Tally) -> Option<String> {
+        let (numbers, names, limits) = (&case.list.numbers, &case.list.names, Limits::default());
+        let parcels = Told::of(second::parcel_count(numbers, names, &limits));
+        let instructions = Told::of(second::instruction_count(numbers, names, &limits));
+        unlike([parcels; 2], counts::parcels(&case.list))
+            .or_else(|| unlike([instructions; 2], counts::instructions(&case.list)))
+    }
+}
+
+#[cfg(feature = "slots")]
+mod slots {
+    use visa_oracle::cases::Case;
+    use visa_oracle::linked;
+    use visa_oracle::second::{self, Limits, Told};
+
+    use super::unlike;
+    use crate::lists::Tally;
+
+    pub fn difference(case: &Case, _: &Tally) -> Option<String> {
+        let checked = second::slot_check(&case.list.numbers, &case.list.names, &Limits::default());
+        let expected = Told::of(checked.map(|()| 0));
+        unlike([expected; 2], linked::slot_check(&case.list))
+    }
+}
+
+#[cfg(feature = "bytes")]
+mod bytes {
+    use visa_oracle::cases::{Case, Guarded};
+    use visa_oracle::linked::bytes::{plain_write, write, Written};
+    use visa_oracle::second;
+
+    use super::unlike;
+    use crate::lists::Tally;
+
+    type Write = fn(&[u16], &mut [u8]) -> Written;
+
+    /// As many parcels as the case lends, into exactly enough bytes, more and fewer.
+    pub fn difference(case: &Case, _: &Tally) -> Option<String> {
+        let mut parcels = Guarded::parcels(case.lengths.parcels);
+        let enough = 2 * parcels.lent().len();
+        let lengths = [enough, enough + 7, enough.saturating_sub(1)];
+        lengths.iter().find_map(|&length| of_length(parcels.lent(), length))
+    }
+
+    fn of_length(parcels: &[u16], length: usize) -> Option<String> {
+        let (expected, left) = answer(length, |bytes| expected(parcels, bytes));
+        let differs = |write: Write| {
+            let (written, found) = answer(length, |bytes| write(parcels, bytes));
+            unlike(expected, written).or_else(|| left.difference(&found, "bytes"))
+        };
+        differs(write).or_else(|| differs(plain_write))
+    }
+
+    fn answer(length: usize, write: impl Fn(&mut [u8]) -> Written) -> (Written, Guarded<u8>) {
+        let mut bytes = Guarded::bytes(length);
+        let written = write(bytes.lent());
+        (written, bytes)
+    }
+
+    fn expected(parcels: &[u16], bytes: &mut [u8]) -> Written {
+        match second::to_bytes(parcels, bytes) {
+            Ok(count) => Written { bytes: count as u64, ..Written::default() },
+            Err(refusal) => {
+                Written { first: refusal.first, number: refusal.number, ..Written::default() }
+            }
+        }
+    }
+}
+
+#[cfg(feature = "same")]
+mod same {
+    use visa_oracle::cases::Case;
+    use visa_oracle::list::List;
+    use visa_oracle::row::WIDTH;
+    use visa_oracle::same::{port, rust, Kernel};
+    use visa_oracle::second::{self, Limits, Rooms};
+
+    use super::unlike;
+    use crate::lists::Tally;
+
+    /// The same program text over the Rust and over the port's crate, on whole rows that say items.
+    /// A list over the limits has an error of its own there, and its counts.
+    pub fn difference(case: &Case, _: &Tally) -> Option<String> {
+        let whole = case.list.numbers.len() % WIDTH == 0;
+        if !whole || !matches!(case.list.program(), Some(Ok(_))) {
+            return None;
+        }
+        let (expected, found) = (rust::kernel(&case.list), port::kernel(&case.list));
+        match (&expected, &found) {
+            (Ok(expected), Ok(found)) if does_not_fit(found) => {
+                let fits = fits(&case.list).then(|| "an error about the limits".to_string());
+                fits.or_else(|| unlike(&expected.parcel_count, &found.parcel_count))
+                    .or_else(|| unlike(expected.instruction_count, found.instruction_count))
+            }
+            _ => unlike(&expected, &found),
+        }
+    }
+
+    fn does_not_fit(kernel: &Kernel) -> bool {
+        kernel.parcels.as_ref().is_err_and(|failure| failure.does_not_fit())
+    }
+
+    fn fits(list: &List) -> bool {
+        let limits = Limits::default();
+        let Rooms { parcels, labels, jumps, loops } =
+            second::needs(&list.numbers, &list.names, &limits);
+        list.rows().count() <= limits.rows
+            && parcels <= limits.parcels
+            && labels <= limits.labels
+            && jumps <= limits.jumps
+            && loops <= limits.loops
+    }
+}

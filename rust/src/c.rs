@@ -1,0 +1,235 @@
+//! The library's C interface, each function behind a safe one: slices for pointers and lengths, the
+//! answers as the C header has them. `include/lhodrupesh.h` documents every argument and answer.
+
+#![allow(unsafe_code)]
+
+/// What a call on a list answers: number 0 and a count, or a refusal's number with count 0, its
+/// details, and the range of the refused row's name (refusals 11, 12 and 28; else 0 and 0).
+///
+/// ```
+/// let nop = [38, 0, 0, 0, 0, 0, 0, 0, 0, 0, 0, 0, 0, 0, 0, 0, 0];
+/// let told = lhodrupesh::c::parcel_count(&nop, &[]);
+/// assert_eq!((told.number, told.count), (0, 1));
+/// ```
+#[repr(C)]
+#[derive(Debug, Clone, Copy, PartialEq, Eq, Default)]
+pub struct Told {
+    /// 0, or the refusal's number.
+    pub number: u32,
+    /// Parcels or instructions; 0 in a refusal and in the slot check.
+    pub count: u32,
+    /// The refusal's first detail, 0 where it has none.
+    pub first: i64,
+    /// The refusal's second detail, 0 where it has none.
+    pub second: i64,
+    /// Where the refused row's name starts in the names.
+    pub start: u32,
+    /// How many bytes the name has.
+    pub length: u32,
+}
+
+/// What the one-instruction call answers: number 0, the count and the parcels in front, or a
+/// refusal with count and places zero.
+///
+/// ```
+/// let wide_nop = [39, 0, 0, 0, 0, 0, 0, 0, 0, 0, 0, 0, 0, 0, 0, 0, 0];
+/// assert_eq!(lhodrupesh::c::instruction(&wide_nop).count, 3);
+/// ```
+#[repr(C)]
+#[derive(Debug, Clone, Copy, PartialEq, Eq, Default)]
+pub struct One {
+    /// 0, or the refusal's number.
+    pub number: u32,
+    /// How many of the places are parcels.
+    pub count: u32,
+    /// The refusal's first detail, 0 where it has none.
+    pub first: i64,
+    /// The refusal's second detail, 0 where it has none.
+    pub second: i64,
+    /// The parcels, then zeros.
+    pub places: [u16; 6],
+}
+
+/// What parcels to bytes answers: the number of bytes, or refusal 34.
+///
+/// ```
+/// let written = lhodrupesh::c::bytes(&[0x1234], &mut [0; 2]);
+/// assert_eq!((written.number, written.bytes), (0, 2));
+/// ```
+#[repr(C)]
+#[derive(Debug, Clone, Copy, PartialEq, Eq, Default)]
+pub struct Written {
+    /// How many bytes were written; 0 in a refusal.
+    pub bytes: u64,
+    /// The refusal's detail: the bytes lent.
+    pub first: i64,
+    /// 0, or 34.
+    pub number: u32,
+    /// 0.
+    pub spare: u32,
+}
+
+/// A record of the lent table of open loops. A build leaves zeros in those that it used.
+///
+/// ```
+/// assert_eq!(lhodrupesh::c::LoopRecord::default().place, 0);
+/// ```
+#[repr(C)]
+#[derive(Debug, Clone, Copy, PartialEq, Eq, Default)]
+pub struct LoopRecord {
+    /// The first parcel of the loop start.
+    pub place: u32,
+    /// The first body entry.
+    pub first: u32,
+    /// The count.
+    pub count: u32,
+    /// The mode.
+    pub mode: u32,
+}
+
+/// What the library counts the loop table in: numbers, so many to a record.
+type LoopPlace = u32;
+const LOOP_PLACES: usize = size_of::<LoopRecord>() / size_of::<LoopPlace>();
+
+extern "C" {
+    fn lhodrupesh_instruction(row: *const u32, row_len: usize) -> One;
+
+    fn lhodrupesh_build(
+        rows: *const u32,
+        rows_len: usize,
+        names: *const u8,
+        names_len: usize,
+        parcels: *mut u16,
+        parcels_len: usize,
+        labels: *mut u32,
+        labels_len: usize,
+        jumps: *mut u32,
+        jumps_len: usize,
+        loops: *mut LoopPlace,
+        loops_len: usize,
+    ) -> Told;
+
+    fn lhodrupesh_parcel_count(
+        rows: *const u32,
+        rows_len: usize,
+        names: *const u8,
+        names_len: usize,
+    ) -> Told;
+
+    fn lhodrupesh_instruction_count(
+        rows: *const u32,
+        rows_len: usize,
+        names: *const u8,
+        names_len: usize,
+    ) -> Told;
+
+    fn lhodrupesh_slot_check(
+        rows: *const u32,
+        rows_len: usize,
+        names: *const u8,
+        names_len: usize,
+    ) -> Told;
+
+    fn lhodrupesh_bytes(
+        parcels: *const u16,
+        parcels_len: usize,
+        bytes: *mut u8,
+        bytes_len: usize,
+    ) -> Written;
+}
+
+// SAFETY, of every call below: each pointer and length are those of a slice that outlives the call;
+// `&mut` slices overlap no other; the library reads and writes nothing beyond them and keeps none.
+// The functions are `inline`, so that a program needs those of the library's that it calls and no
+// others.
+
+/// One instruction's parcels.
+///
+/// ```
+/// let nop = [38, 0, 0, 0, 0, 0, 0, 0, 0, 0, 0, 0, 0, 0, 0, 0, 0];
+/// assert_eq!(lhodrupesh::c::instruction(&nop).places, [1, 0, 0, 0, 0, 0]);
+/// ```
+#[inline]
+pub fn instruction(row: &[u32]) -> One {
+    unsafe { lhodrupesh_instruction(row.as_ptr(), row.len()) }
+}
+
+/// The build of a list into lent buffers.
+///
+/// ```
+/// let nop = [38, 0, 0, 0, 0, 0, 0, 0, 0, 0, 0, 0, 0, 0, 0, 0, 0];
+/// let mut parcels = [0; 1];
+/// let told = lhodrupesh::c::build(&nop, &[], &mut parcels, &mut [], &mut [], &mut []);
+/// assert_eq!((told.number, told.count, parcels), (0, 1, [1]));
+/// ```
+#[inline]
+pub fn build(
+    rows: &[u32],
+    names: &[u8],
+    parcels: &mut [u16],
+    labels: &mut [u32],
+    jumps: &mut [u32],
+    loops: &mut [LoopRecord],
+) -> Told {
+    unsafe {
+        lhodrupesh_build(
+            rows.as_ptr(),
+            rows.len(),
+            names.as_ptr(),
+            names.len(),
+            parcels.as_mut_ptr(),
+            parcels.len(),
+            labels.as_mut_ptr(),
+            labels.len(),
+            jumps.as_mut_ptr(),
+            jumps.len(),
+            loops.as_mut_ptr().cast::<LoopPlace>(),
+            loops.len() * LOOP_PLACES,
+        )
+    }
+}
+
+/// The parcel count of a list.
+///
+/// ```
+/// let leaf_return = [31, 0, 0, 0, 0, 0, 0, 0, 0, 0, 0, 0, 0, 0, 0, 0, 0];
+/// assert_eq!(lhodrupesh::c::parcel_count(&leaf_return, &[]).count, 6);
+/// ```
+#[inline]
+pub fn parcel_count(rows: &[u32], names: &[u8]) -> Told {
+    unsafe { lhodrupesh_parcel_count(rows.as_ptr(), rows.len(), names.as_ptr(), names.len()) }
+}
+
+/// The instruction count of a list.
+///
+/// ```
+/// let leaf_return = [31, 0, 0, 0, 0, 0, 0, 0, 0, 0, 0, 0, 0, 0, 0, 0, 0];
+/// assert_eq!(lhodrupesh::c::instruction_count(&leaf_return, &[]).count, 4);
+/// ```
+#[inline]
+pub fn instruction_count(rows: &[u32], names: &[u8]) -> Told {
+    unsafe { lhodrupesh_instruction_count(rows.as_ptr(), rows.len(), names.as_ptr(), names.len()) }
+}
+
+/// The slot check of a list: count 0, whatever it answers.
+///
+/// ```
+/// let c_jump = [29, 0, 0, 0, 0, 0, 0, 0, 0, 0, 0, 0, 0, 0, 0, 0, 0];
+/// assert_eq!(lhodrupesh::c::slot_check(&c_jump, &[]).number, 33);
+/// ```
+#[inline]
+pub fn slot_check(rows: &[u32], names: &[u8]) -> Told {
+    unsafe { lhodrupesh_slot_check(rows.as_ptr(), rows.len(), names.as_ptr(), names.len()) }
+}
+
+/// Parcels to bytes, low byte first.
+///
+/// ```
+/// let mut bytes = [0; 3];
+/// lhodrupesh::c::bytes(&[0x1234], &mut bytes);
+/// assert_eq!(bytes, [0x34, 0x12, 0]);
+/// ```
+#[inline]
+pub fn bytes(parcels: &[u16], bytes: &mut [u8]) -> Written {
+    unsafe { lhodrupesh_bytes(parcels.as_ptr(), parcels.len(), bytes.as_mut_ptr(), bytes.len()) }
+}

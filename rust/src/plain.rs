@@ -1,0 +1,195 @@
+//! The plain interface: rows of seventeen numbers, names as ranges of one byte slice, and buffers
+//! that the caller lends. Nothing is allocated.
+//!
+//! ```
+//! use lhodrupesh::plain::{self, Lent, LoopRecord, Name, Refusal};
+//!
+//! // A label, IntegerSubOne R1, a jump to the label unless equal, Nop.
+//! let rows = [
+//!     [48, 0, 3, 0, 0, 0, 0, 0, 0, 0, 0, 0, 0, 0, 0, 0, 0],
+//!     [25, 1, 1, 0, 0, 0, 0, 0, 0, 0, 0, 0, 0, 0, 0, 0, 0],
+//!     [49, 1, 0, 3, 0, 0, 0, 0, 0, 0, 0, 0, 0, 0, 0, 0, 0],
+//!     [38, 0, 0, 0, 0, 0, 0, 0, 0, 0, 0, 0, 0, 0, 0, 0, 0],
+//! ];
+//! let (mut parcels, mut labels, mut jumps) = ([0; 16], [0; 3], [0; 2]);
+//! let mut loops = [LoopRecord::default(); 0];
+//! let mut lent = Lent {
+//!     parcels: &mut parcels,
+//!     labels: &mut labels,
+//!     jumps: &mut jumps,
+//!     loops: &mut loops,
+//! };
+//! assert_eq!(plain::build(rows.as_flattened(), b"top", &mut lent), Ok(7));
+//! assert_eq!(labels, [0, 3, 0]);
+//! assert_eq!(parcels[..4], [0x013e, 0x0002, 0xa110, 0x0720]);
+//!
+//! // Without the label the jump leads nowhere: the refusal names it.
+//! let mut lent = Lent { parcels: &mut parcels, labels: &mut [], jumps: &mut jumps, loops: &mut [] };
+//! let refusal = plain::build(rows[1..].as_flattened(), b"top", &mut lent).unwrap_err();
+//! assert_eq!(refusal, Refusal::UndefinedLabel(Name { start: 0, length: 3 }));
+//! assert_eq!((refusal.number(), refusal.name(b"top")), (12, &b"top"[..]));
+//! ```
+
+use std::ops::Deref;
+
+use crate::c;
+
+pub use crate::c::LoopRecord;
+pub use crate::refusal::{Name, Refusal};
+
+/// The numbers of a row.
+pub const ROW: usize = 17;
+/// The numbers of a label entry: start, length, place.
+pub const LABEL_ENTRY: usize = 3;
+/// The numbers of a waiting jump: place, row.
+pub const JUMP_ENTRY: usize = 2;
+/// The most rows of a list.
+pub const MOST_ROWS: usize = 4_194_304;
+/// The most parcels of a build.
+pub const MOST_PARCELS: usize = 16_777_216;
+/// The most labels of a build.
+pub const MOST_LABELS: usize = 4_096;
+/// The most jumps of a build.
+pub const MOST_JUMPS: usize = 4_096;
+/// The most loops open at once.
+pub const MOST_LOOPS: usize = 64;
+
+/// The buffers lent to a build. Of each, at most the limit is used.
+///
+/// Accepted: the parcels stand at the front, labels and jumps in item order, zeros in the loop
+/// records that were used. Refused: zeros stand in all that the rows before the refused one took.
+/// All else is unchanged.
+///
+/// ```
+/// use lhodrupesh::plain::{self, Lent};
+///
+/// let nop = [38, 0, 0, 0, 0, 0, 0, 0, 0, 0, 0, 0, 0, 0, 0, 0, 0];
+/// let mut parcels = [7; 2];
+/// let mut lent =
+///     Lent { parcels: &mut parcels, labels: &mut [], jumps: &mut [], loops: &mut [] };
+/// assert_eq!(plain::build(&nop, &[], &mut lent), Ok(1));
+/// assert_eq!(parcels, [1, 7]);
+/// ```
+#[derive(Debug)]
+pub struct Lent<'a> {
+    /// Room for parcels.
+    pub parcels: &'a mut [u16],
+    /// Room for label entries, [`LABEL_ENTRY`] numbers each.
+    pub labels: &'a mut [u32],
+    /// Room for waiting jumps, [`JUMP_ENTRY`] numbers each.
+    pub jumps: &'a mut [u32],
+    /// Room for open loops.
+    pub loops: &'a mut [LoopRecord],
+}
+
+/// One instruction's parcels.
+///
+/// ```
+/// let parcels = lhodrupesh::plain::instruction(&[0; 17])?;
+/// assert_eq!(*parcels, [0x013e, 0x0008, 0x1000]);
+/// # Ok::<(), lhodrupesh::plain::Refusal>(())
+/// ```
+#[derive(Debug, Clone, Copy, PartialEq, Eq)]
+pub struct Parcels {
+    places: [u16; 6],
+    count: u32,
+}
+
+impl Deref for Parcels {
+    type Target = [u16];
+
+    fn deref(&self) -> &[u16] {
+        &self.places[..self.count as usize]
+    }
+}
+
+/// The parcels of the instruction that a row says.
+///
+/// ```
+/// use lhodrupesh::plain::{self, Refusal};
+///
+/// assert_eq!(plain::instruction(&[38; 16]), Err(Refusal::Rows));
+/// assert_eq!(plain::instruction(&[38; 17]), Err(Refusal::Row));
+/// ```
+pub fn instruction(row: &[u32]) -> Result<Parcels, Refusal> {
+    let one = c::instruction(row);
+    match one.number {
+        0 => Ok(Parcels { places: one.places, count: one.count }),
+        _ => Err(Refusal::one(&one)),
+    }
+}
+
+/// Builds a list into the lent buffers, and answers how many parcels it took.
+///
+/// ```
+/// use lhodrupesh::plain::{self, Lent, Refusal};
+///
+/// let wide_nop = [39, 0, 0, 0, 0, 0, 0, 0, 0, 0, 0, 0, 0, 0, 0, 0, 0];
+/// let mut lent =
+///     Lent { parcels: &mut [0; 2], labels: &mut [], jumps: &mut [], loops: &mut [] };
+/// assert_eq!(plain::build(&wide_nop, &[], &mut lent), Err(Refusal::NoRoomForParcels(2)));
+/// ```
+pub fn build(rows: &[u32], names: &[u8], lent: &mut Lent<'_>) -> Result<usize, Refusal> {
+    let Lent { parcels, labels, jumps, loops } = lent;
+    counted(c::build(rows, names, parcels, labels, jumps, loops))
+}
+
+/// How many parcels a list takes. Labels, jumps and loops aren't looked into.
+///
+/// ```
+/// let loop_start = [50, 0, 1, 0, 0, 0, 0, 0, 0, 0, 0, 0, 0, 0, 0, 0, 0];
+/// assert_eq!(lhodrupesh::plain::parcel_count(&loop_start, &[]), Ok(3));
+/// ```
+pub fn parcel_count(rows: &[u32], names: &[u8]) -> Result<usize, Refusal> {
+    counted(c::parcel_count(rows, names))
+}
+
+/// How many instructions a list has: jumps and loop starts are one each, a `LeafReturn` is four.
+///
+/// ```
+/// let loop_end = [51, 0, 0, 0, 0, 0, 0, 0, 0, 0, 0, 0, 0, 0, 0, 0, 0];
+/// assert_eq!(lhodrupesh::plain::instruction_count(&loop_end, &[]), Ok(0));
+/// ```
+pub fn instruction_count(rows: &[u32], names: &[u8]) -> Result<usize, Refusal> {
+    counted(c::instruction_count(rows, names))
+}
+
+/// Whether the next two items after each delayed `JumpRelative` and each `CJump` are instructions
+/// that stay.
+///
+/// ```
+/// use lhodrupesh::plain::{self, Refusal};
+///
+/// let c_jump = [29, 0, 0, 0, 0, 0, 0, 0, 0, 0, 0, 0, 0, 0, 0, 0, 0];
+/// let nop = [38, 0, 0, 0, 0, 0, 0, 0, 0, 0, 0, 0, 0, 0, 0, 0, 0];
+/// assert_eq!(plain::slot_check([c_jump, nop, nop].as_flattened(), &[]), Ok(()));
+/// assert_eq!(plain::slot_check([nop, c_jump, nop].as_flattened(), &[]), Err(Refusal::Slot(1)));
+/// ```
+pub fn slot_check(rows: &[u32], names: &[u8]) -> Result<(), Refusal> {
+    counted(c::slot_check(rows, names)).map(|_| ())
+}
+
+/// Writes parcels as bytes, low byte first, and answers how many bytes.
+///
+/// ```
+/// use lhodrupesh::plain::{self, Refusal};
+///
+/// let mut bytes = [0; 5];
+/// assert_eq!(plain::bytes(&[0x1234, 0xabcd], &mut bytes), Ok(4));
+/// assert_eq!(bytes, [0x34, 0x12, 0xcd, 0xab, 0]);
+/// assert_eq!(plain::bytes(&[1, 2], &mut bytes[..3]), Err(Refusal::TooFewBytes(3)));
+/// ```
+pub fn bytes(parcels: &[u16], bytes: &mut [u8]) -> Result<usize, Refusal> {
+    let written = c::bytes(parcels, bytes);
+    match written.number {
+        0 => Ok(written.bytes as usize),
+        _ => Err(Refusal::written(&written)),
+    }
+}
+
+fn counted(told: c::Told) -> Result<usize, Refusal> {
+    match told.number {
+        0 => Ok(told.count as usize),
+        _ => Err(Refusal::told(&told)),
+    }
+}

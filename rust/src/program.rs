@@ -1,0 +1,247 @@
+//! A kernel, item by item.
+
+use crate::plain::{self, Lent, LoopRecord, JUMP_ENTRY, LABEL_ENTRY, ROW};
+use crate::row::{self, Row};
+use crate::visa::{self, Condition, LoopCount, LoopMode, VisaInstruction};
+use crate::{error, VisaError};
+
+/// A kernel: instructions, labels, jumps to them, and counted loops.
+///
+/// ```
+/// use lhodrupesh::{LoopCount, LoopMode, VisaInstruction, VisaProgram};
+///
+/// let mut program = VisaProgram::new();
+/// program.loop_begin(LoopCount::Immediate(16), LoopMode::F1Active);
+/// program.push(VisaInstruction::WideNop);
+/// program.loop_end();
+/// assert_eq!(program.parcels(), Ok(vec![0x0c00, 0x1080, 0x0003, 0, 0, 0]));
+/// ```
+#[derive(Debug, Clone, Default, PartialEq, Eq)]
+pub struct VisaProgram {
+    rows: Vec<u32>,
+    names: Vec<u8>,
+    /// No build takes more parcels than so many.
+    most_parcels: usize,
+    labels: usize,
+    jumps: usize,
+}
+
+/// The bytes of names that a row's 32-bit numbers reach.
+const MOST_NAME_BYTES: usize = u32::MAX as usize;
+
+impl VisaProgram {
+    /// A kernel without items.
+    ///
+    /// ```
+    /// assert_eq!(lhodrupesh::VisaProgram::new().parcels(), Ok(vec![]));
+    /// ```
+    pub fn new() -> Self {
+        Self::default()
+    }
+
+    /// Adds an instruction.
+    ///
+    /// ```
+    /// use lhodrupesh::{Instruction, Register, VisaProgram};
+    ///
+    /// let mut program = VisaProgram::new();
+    /// program.push(Instruction::Move { dst: Register::new(0)?, src: Register::new(1)? });
+    /// assert_eq!(program.parcel_count(), Ok(3));
+    /// # Ok::<(), lhodrupesh::Error>(())
+    /// ```
+    pub fn push(&mut self, instruction: impl Into<VisaInstruction>) {
+        let instruction = instruction.into();
+        self.most_parcels += if instruction == VisaInstruction::LeafReturn { 6 } else { 3 };
+        self.add(&instruction.row());
+    }
+
+    /// Adds a label at this place. A second one of its name is refused by the build.
+    ///
+    /// ```
+    /// use lhodrupesh::{VisaError, VisaProgram};
+    ///
+    /// let mut program = VisaProgram::new();
+    /// program.label("top");
+    /// program.label("top");
+    /// assert_eq!(program.parcels(), Err(VisaError::DuplicateLabel("top".to_string())));
+    /// ```
+    pub fn label(&mut self, name: impl Into<String>) {
+        let [start, length] = self.add_name(&name.into());
+        self.labels += 1;
+        self.add(&row::row(&[48, start, length]));
+    }
+
+    /// Adds a jump to a label that may stand anywhere in the kernel.
+    ///
+    /// ```
+    /// use lhodrupesh::{Condition, VisaError, VisaProgram};
+    ///
+    /// let mut program = VisaProgram::new();
+    /// program.jump(Condition::Always, "end");
+    /// assert_eq!(program.parcels(), Err(VisaError::UndefinedLabel("end".to_string())));
+    /// program.label("end");
+    /// assert_eq!(program.parcels(), Ok(vec![0x073e, 0x0000, 0x0003]));
+    /// ```
+    pub fn jump(&mut self, condition: Condition, target: impl Into<String>) {
+        let [start, length] = self.add_name(&target.into());
+        self.jumps += 1;
+        self.most_parcels += 3;
+        self.add(&row::row(&[49, condition as u32, start, length]));
+    }
+
+    /// Starts a loop over the instructions up to the [`loop_end`](Self::loop_end) that pairs with
+    /// it. Loops nest.
+    ///
+    /// ```
+    /// use lhodrupesh::{LoopCount, LoopMode, VisaError, VisaProgram};
+    ///
+    /// let mut program = VisaProgram::new();
+    /// program.loop_begin(LoopCount::Immediate(1), LoopMode::E2Active);
+    /// assert_eq!(program.parcels(), Err(VisaError::UnclosedLoop));
+    /// ```
+    pub fn loop_begin(&mut self, count: LoopCount, mode: LoopMode) {
+        let [by_register, count] = match count {
+            LoopCount::Immediate(count) => [0, count.into()],
+            LoopCount::Register(register) => [1, register.code().into()],
+        };
+        self.most_parcels += 3;
+        self.add(&row::row(&[50, by_register, count, mode as u32]));
+    }
+
+    /// Ends the innermost open loop with the instruction before.
+    ///
+    /// ```
+    /// use lhodrupesh::{LoopCount, LoopMode, VisaError, VisaProgram};
+    ///
+    /// let mut program = VisaProgram::new();
+    /// program.loop_begin(LoopCount::Immediate(1), LoopMode::E2Active);
+    /// program.loop_end();
+    /// assert_eq!(program.parcels(), Err(VisaError::EmptyLoop));
+    /// ```
+    pub fn loop_end(&mut self) {
+        self.add(&row::row(&[51]));
+    }
+
+    /// How many instructions there are: a jump or a loop start is one, a `LeafReturn` four.
+    ///
+    /// ```
+    /// use lhodrupesh::{VisaInstruction, VisaProgram};
+    ///
+    /// let mut program = VisaProgram::new();
+    /// program.push(VisaInstruction::LeafReturn);
+    /// program.label("end");
+    /// assert_eq!(program.instruction_count(), 4);
+    /// ```
+    pub fn instruction_count(&self) -> usize {
+        let count = |rows| {
+            plain::instruction_count(rows, &self.names).expect("rows of this crate's making count")
+        };
+        self.chunks().map(count).sum()
+    }
+
+    /// How many parcels the items so far take, whether labels and loops are right or not.
+    ///
+    /// ```
+    /// use lhodrupesh::{Condition, VisaProgram};
+    ///
+    /// let mut program = VisaProgram::new();
+    /// program.jump(Condition::Always, "nowhere yet");
+    /// assert_eq!(program.parcel_count(), Ok(3));
+    /// ```
+    pub fn parcel_count(&self) -> Result<usize, VisaError> {
+        let count = |rows| {
+            plain::parcel_count(rows, &self.names)
+                .map_err(|refusal| error::of(refusal, &self.names))
+        };
+        self.chunks().map(count).sum()
+    }
+
+    /// Builds the kernel.
+    ///
+    /// ```
+    /// use lhodrupesh::{VisaInstruction, VisaProgram};
+    ///
+    /// let mut program = VisaProgram::new();
+    /// program.push(VisaInstruction::Nop);
+    /// assert_eq!(program.parcels(), Ok(vec![0x0001]));
+    /// ```
+    pub fn parcels(&self) -> Result<Vec<u16>, VisaError> {
+        if self.names.len() > MOST_NAME_BYTES {
+            return Err(error::does_not_fit("bytes of names", MOST_NAME_BYTES));
+        }
+        let mut parcels = vec![0; self.most_parcels.min(plain::MOST_PARCELS)];
+        let mut labels = vec![0; LABEL_ENTRY * self.labels.min(plain::MOST_LABELS)];
+        let mut jumps = vec![0; JUMP_ENTRY * self.jumps.min(plain::MOST_JUMPS)];
+        let mut loops = [LoopRecord::default(); plain::MOST_LOOPS];
+        let mut lent = Lent {
+            parcels: &mut parcels,
+            labels: &mut labels,
+            jumps: &mut jumps,
+            loops: &mut loops,
+        };
+        let count = plain::build(&self.rows, &self.names, &mut lent)
+            .map_err(|refusal| error::of(refusal, &self.names))?;
+        parcels.truncate(count);
+        Ok(parcels)
+    }
+
+    /// Builds the kernel, as bytes: each parcel low byte first.
+    ///
+    /// ```
+    /// use lhodrupesh::{VisaInstruction, VisaProgram};
+    ///
+    /// let mut program = VisaProgram::new();
+    /// program.push(VisaInstruction::Nop);
+    /// assert_eq!(program.encode(), Ok(vec![0x01, 0x00]));
+    /// ```
+    pub fn encode(&self) -> Result<Vec<u8>, VisaError> {
+        self.parcels().map(|parcels| visa::bytes(&parcels))
+    }
+
+    /// The kernel's rows, for the plain interface. `qc_asm` has nothing of this name.
+    ///
+    /// ```
+    /// use lhodrupesh::plain::{self, Refusal};
+    /// use lhodrupesh::{VisaInstruction, VisaProgram};
+    ///
+    /// let mut program = VisaProgram::new();
+    /// program.push(VisaInstruction::CJump { target: 0x38c4 });
+    /// program.push(VisaInstruction::Nop);
+    /// let checked = plain::slot_check(program.rows(), program.names());
+    /// assert_eq!(checked, Err(Refusal::Slot(0)));
+    /// ```
+    pub fn rows(&self) -> &[u32] {
+        &self.rows
+    }
+
+    /// The names that the rows' ranges lie in. `qc_asm` has nothing of this name.
+    ///
+    /// ```
+    /// let mut program = lhodrupesh::VisaProgram::new();
+    /// program.label("top");
+    /// assert_eq!((program.names(), &program.rows()[..3]), (&b"top"[..], &[48, 0, 3][..]));
+    /// ```
+    pub fn names(&self) -> &[u8] {
+        &self.names
+    }
+
+    fn add(&mut self, row: &Row) {
+        self.rows.extend(row);
+    }
+
+    /// The range of a name, put at the end of the names. Beyond what a row's numbers reach it is
+    /// that of an empty one: such a kernel is never built.
+    fn add_name(&mut self, name: &str) -> [u32; 2] {
+        let start = self.names.len();
+        self.names.extend(name.as_bytes());
+        if self.names.len() > MOST_NAME_BYTES {
+            return [0, 0];
+        }
+        [start as u32, name.len() as u32]
+    }
+
+    /// The rows in parts, each no longer than a list may be.
+    fn chunks(&self) -> impl Iterator<Item = &[u32]> {
+        self.rows.chunks(ROW * plain::MOST_ROWS)
+    }
+}

@@ -1,0 +1,192 @@
+//! Document 01's kernels on the edge, through the types and through rows.
+
+use lhodrupesh::plain::{self, Refusal};
+use lhodrupesh::{
+    AluOp, Compute, Condition, DataAccess, Direction, FloatMulAlu, IndexRegister, LoopCount,
+    LoopMode, MemoryAccess, ModifyRegister, Register, UniversalRegister, Update, VisaError,
+    VisaInstruction, VisaProgram,
+};
+
+fn r(index: u8) -> Register {
+    Register::new(index).unwrap()
+}
+
+fn i(index: u8) -> IndexRegister {
+    IndexRegister::new(index).unwrap()
+}
+
+fn m(index: u8) -> ModifyRegister {
+    ModifyRegister::new(index).unwrap()
+}
+
+fn u(code: u8) -> UniversalRegister {
+    UniversalRegister::new(code).unwrap()
+}
+
+fn load(offset: i32) -> VisaInstruction {
+    VisaInstruction::LoadDmOffset { dst: r(0).into(), index: i(6), offset }
+}
+
+fn jump(offset: i32) -> VisaInstruction {
+    VisaInstruction::JumpRelative { condition: Condition::Always, offset, delayed: false }
+}
+
+fn memory_move(update: Update) -> VisaInstruction {
+    let access = MemoryAccess {
+        direction: Direction::Load,
+        register: i(3).into(),
+        index: i(4),
+        modifier: m(5),
+        update,
+    };
+    VisaInstruction::MemoryMove { compute: None, access }
+}
+
+#[test]
+fn instructions_have_their_parcels() {
+    use VisaInstruction as V;
+    let both = FloatMulAlu {
+        product: r(0),
+        mul_x: r(1),
+        mul_y: r(5),
+        op: AluOp::Add,
+        alu_dst: r(2),
+        alu_x: r(9),
+        alu_y: r(13),
+    };
+    let cases: [(V, &[u16]); 15] = [
+        (V::Nop, &[0x0001]),
+        (V::WideNop, &[0, 0, 0]),
+        (load(-64), &[0x9c08, 0x0040]),
+        (load(63), &[0x9c08, 0x003f]),
+        (load(64), &[0xac00, 0x0000, 0x0040]),
+        (load(-65), &[0xac00, 0xffff, 0xffbf]),
+        (V::StoreDmPostModify { src: u(2), index: i(4), modifier: m(6) }, &[0x99b2]),
+        (V::Transfer { dst: u(1), src: i(6).into() }, &[0x717f, 0x00bf]),
+        (V::PushImmediate { value: 0x1234 }, &[0x9fc0, 0x0000, 0x1234]),
+        (
+            V::StoreImmediate { index: i(7), modifier: m(7), value: 0x1234 },
+            &[0x9fc0, 0x0000, 0x1234],
+        ),
+        (jump(-0x80_0000), &[0x073e, 0x0080, 0x0000]),
+        (V::Compute(Compute::float_mul_alu(both).unwrap()), &[0x013e, 0x0058, 0x0255]),
+        (V::ModifyIndex { index: i(12), offset: -1 }, &[0x15c4, 0xffff, 0xffff]),
+        (memory_move(Update::PreModify), &[0x497e, 0x0980, 0x0000]),
+        (V::LeafReturn, &lhodrupesh::LEAF_RETURN_PARCELS),
+    ];
+    for (instruction, parcels) in cases {
+        assert_eq!(instruction.parcels().as_deref(), Ok(parcels), "{instruction:?}");
+        assert_eq!(plain::instruction(&instruction.row()).as_deref(), Ok(parcels));
+        let bytes: Vec<u8> = parcels.iter().flat_map(|parcel| parcel.to_le_bytes()).collect();
+        assert_eq!(instruction.encode(), Ok(bytes));
+    }
+}
+
+#[test]
+fn instructions_are_refused_with_their_values() {
+    use VisaInstruction as V;
+    let through_itself = (u(0x10), i(0), m(0));
+    let (register, index, modifier) = through_itself;
+    let dual = |dm, pm| V::DualMove {
+        compute: None,
+        dm: DataAccess { direction: Direction::Load, register: r(2), index: dm, modifier: m(0) },
+        pm: DataAccess { direction: Direction::Load, register: r(2), index: pm, modifier: m(8) },
+    };
+    let cases = [
+        (jump(0x80_0000), VisaError::BranchOutOfRange(0x80_0000), "9 8388608 0"),
+        (memory_move(Update::PostModify), VisaError::SameDagRegister(0x13), "16 19 0"),
+        (
+            V::StoreDmPostModify { src: register, index, modifier },
+            VisaError::Dag1StoreSource(0x10),
+            "8 16 0",
+        ),
+        (
+            V::LoadDmPostModify { dst: register, index, modifier },
+            VisaError::UnsupportedPostModifyRegister(0x10),
+            "7 16 0",
+        ),
+        (dual(i(8), i(8)), VisaError::InvalidDmIndex(8), "5 8 0"),
+        (dual(i(0), i(7)), VisaError::InvalidPmIndex(7), "13 7 0"),
+        (dual(i(0), i(8)), VisaError::DuplicateDestination(2), "19 2 0"),
+        (
+            V::StoreImmediate { index: i(3), modifier: m(9), value: 0 },
+            VisaError::MixedDag { index: 3, modifier: 9 },
+            "15 3 9",
+        ),
+    ];
+    for (instruction, error, refusal) in cases {
+        assert_eq!(instruction.parcels(), Err(error), "{instruction:?}");
+        let refused = plain::instruction(&instruction.row()).unwrap_err();
+        assert_eq!(refused.to_string(), format!("refused {refusal}"));
+    }
+}
+
+#[test]
+fn computes_are_refused_where_they_are_made() {
+    let both = FloatMulAlu {
+        product: r(4),
+        mul_x: r(0),
+        mul_y: r(4),
+        op: AluOp::Sub,
+        alu_dst: r(4),
+        alu_x: r(8),
+        alu_y: r(3),
+    };
+    let error = Compute::float_mul_alu(both).unwrap_err();
+    let expected = "F3 cannot be the multifunction ALU Y input; it must be one of F12-F15";
+    assert_eq!(error.to_string(), expected);
+    let same = FloatMulAlu { alu_y: r(12), ..both };
+    assert_eq!(Compute::float_mul_alu(same), Err(VisaError::DuplicateDestination(4)));
+    let single = Compute::single(VisaInstruction::Compute(
+        Compute::single(VisaInstruction::IntegerPass { dst: r(1), src: r(2) }).unwrap(),
+    ));
+    assert_eq!(single, Err(VisaError::NotACompute));
+}
+
+fn looped(bodies: &[&[VisaInstruction]]) -> VisaProgram {
+    let mut program = VisaProgram::new();
+    for _ in bodies {
+        program.loop_begin(LoopCount::Immediate(16), LoopMode::F1Active);
+    }
+    for body in bodies {
+        body.iter().for_each(|&instruction| program.push(instruction));
+        program.loop_end();
+    }
+    program
+}
+
+#[test]
+fn loops_end_on_instructions_of_their_own() {
+    let wide = VisaInstruction::WideNop;
+    assert_eq!(looped(&[&[wide]]).parcels(), Ok(vec![0x0c00, 0x1080, 0x0003, 0, 0, 0]));
+    assert_eq!(looped(&[&[wide], &[]]).parcels(), Err(VisaError::SharedLoopEnd));
+    let after_a_nop = |count| [&[VisaInstruction::Nop][..], &vec![wide; count]].concat();
+    assert_eq!(looped(&[&after_a_nop(11)]).parcel_count(), Ok(37));
+    assert!(looped(&[&after_a_nop(11)]).parcels().is_ok());
+    let short = looped(&[&after_a_nop(10)]).parcels();
+    assert_eq!(short, Err(VisaError::LoopTailNotFullWidth(3)));
+}
+
+#[test]
+fn names_are_equal_when_their_bytes_are() {
+    let mut program = VisaProgram::new();
+    program.jump(Condition::Ne, "été");
+    program.label("ete");
+    assert_eq!(program.parcels(), Err(VisaError::UndefinedLabel("été".to_string())));
+    program.label(String::from("été"));
+    assert_eq!(program.encode(), Ok(vec![0x20, 0x07, 0x00, 0x00, 0x03, 0x00]));
+    program.label("ete");
+    let error = program.parcels().unwrap_err();
+    assert_eq!(error.to_string(), "duplicate VISA label \"ete\"");
+    assert_eq!(plain::slot_check(program.rows(), program.names()), Ok(()));
+}
+
+#[test]
+fn rows_that_say_no_item_are_refused() {
+    let mut row = VisaInstruction::Nop.row();
+    row[16] = 1;
+    assert_eq!(plain::parcel_count(&row, &[]), Err(Refusal::Row));
+    let row = [16, 0x100, 0x60, 0, 0, 0, 0, 0, 0, 0, 0, 0, 0, 0, 0, 0, 0];
+    assert_eq!(plain::instruction_count(&row, &[]), Err(Refusal::InvalidUniversalRegister(0x100)));
+    assert_eq!(plain::slot_check(&row[1..], &[]), Err(Refusal::Rows));
+}
