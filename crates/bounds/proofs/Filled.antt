@@ -1,6 +1,6 @@
 -- A row's sixteen bounds are its first eight and its last eight: where a line of the table ends, spare places follow.
-use Prim.Native.Nat.{ℕ, zero, suc, _+_, _-_, _≤_, _<_}
-use mathlib.Core.List.{List, [], _∷_, _++_, append-assoc}
+use Prim.Native.Nat.{ℕ, zero, suc, _+_, _-_, _≤_}
+use mathlib.Core.List.{List, [], _∷_, _++_}
 use mathlib.Core.Path.{_≡_, refl, sym, ap, _∙_}
 use mathlib.Core.Bool.{Bool, true, false, cond, _&&_}
 use native.Mathlib.Omega.{arith}
@@ -8,7 +8,7 @@ use native.Mathlib.Nat.{le-of-suc-le-suc, not-suc-le-zero, zero-add, suc-add}
 use borrow.Author.Tests.{ne-eqb}
 use lib.Dec.{T, eqb, leb, leb→le, lit≤}
 use lib.ListN.{length, getD, take, drop, replicate, length-append, length-take, length-replicate}
-use lib.Seq.{take-take, take-at, drop-at, take-append-le, take-all, length-take-le, take-nil}
+use lib.Seq.{take-take, take-at, drop-at, take-nil}
 use Rattle.bounds.specs.Tables.{lookup, at}
 use Rattle.bounds.specs.Bounds.{spare, never, form, word, code, count, mode, choice, filled, fields, compute, boundsOf}
 
@@ -35,15 +35,12 @@ drop-take zero m l = rw zero-add
 drop-take (suc n) m [] = rw suc-add (sym (take-nil m))
 drop-take (suc n) m (x ∷ l) = rw suc-add (drop-take n m l)
 
-pub length-filled : (n : ℕ) (l : List ℕ) → length (filled n l) ≡ n
-length-filled n l = length-take-le n (l ++ replicate n spare) (simp (length-append, length-replicate) (omega arith))
-
 -- the first eight of a line
 pub front-line : (l : List ℕ) → take 8 (filled 16 l) ≡ filled 8 l
 front-line l = take-take 8 16 (l ++ replicate 16 spare) (lit≤ tt) ∙ fill-more 8 16 8 l (lit≤ tt) (lit≤ tt)
 
 -- the last eight of a line that ends before
-pub back-line : (l : List ℕ) → length l ≤ 8 → drop 8 (filled 16 l) ≡ replicate 8 spare
+back-line : (l : List ℕ) → length l ≤ 8 → drop 8 (filled 16 l) ≡ replicate 8 spare
 back-line l h = drop-take 8 8 (l ++ replicate 16 spare) ∙ spare-past 8 8 16 l h (omega arith)
 
 -- the three field places of a single compute are the first three of its kind's line
@@ -57,7 +54,7 @@ three-places (a ∷ b ∷ c ∷ l) = refl
 
 -- a compute's eight places, and what follows them
 module _ (none : ℕ) (row : List ℕ) where
-  pub length-compute : length (compute none row) ≡ 8
+  length-compute : length (compute none row) ≡ 8
   unfolding compute
   length-compute = simp (length-take, length-append, length-replicate) (omega arith)
 

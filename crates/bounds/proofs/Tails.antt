@@ -1,12 +1,12 @@
 -- The loop of `eight` goes from the last place to the first, and holds what the places from k on say.
-use Prim.Native.Nat.{ℕ, zero, suc, _+_, _-_, _<_, _≤_}
+use Prim.Native.Nat.{ℕ, _+_, _-_, _<_, _≤_}
 use mathlib.Core.List.{List, [], _∷_, _++_}
-use mathlib.Core.Path.{_≡_, refl, _∙_, ap}
+use mathlib.Core.Path.{_≡_, refl, _∙_}
 use native.Mathlib.Omega.{arith}
 use native.Mathlib.Nat.{le-of-suc-le-suc, not-suc-le-zero}
 use native.Mathlib.Numerals.{add-one}
-use lib.ListN.{length, getD, take, drop, length-drop, length-take, take-append-drop}
-use lib.Seq.{drop-cons, getD-drop, drop-length, drop-drop}
+use lib.ListN.{length, getD, take, drop, length-drop, take-append-drop}
+use lib.Seq.{drop-cons, getD-drop, drop-length, drop-drop, length-take-le}
 use Rattle.bounds.specs.declared.Places.{Places}
 use Rattle.bounds.specs.Checks.{said, place}
 
@@ -49,7 +49,7 @@ pub first-last :
     (bounds row : List ℕ) (rest : Places) → 8 ≤ length bounds → length row ≡ 17 →
     said bounds (drop 1 row) rest ≡ said (take 8 bounds) (drop 1 row) (said (drop 8 bounds) (drop 9 row) rest)
 first-last bounds row rest hb hr =
-    let n : length (take 8 bounds) ≡ 8 = lib.Seq.length-take-le 8 bounds hb in
+    let n : length (take 8 bounds) ≡ 8 = length-take-le 8 bounds hb in
     let l : length (take 8 bounds) ≤ length (drop 1 row) = simp (n, length-drop) (omega arith) in
     let e : said (take 8 bounds ++ drop 8 bounds) (drop 1 row) rest ≡ said (take 8 bounds) (drop 1 row) (said (drop 8 bounds) (drop (length (take 8 bounds)) (drop 1 row)) rest) = said-append (take 8 bounds) (drop 8 bounds) (drop 1 row) rest l in
     rw (take-append-drop, n, drop-drop) at e

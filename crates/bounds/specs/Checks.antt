@@ -32,13 +32,13 @@ said (b ∷ bs) (v ∷ vs) rest = place b v (said bs vs rest)
 unfoldable pub placesOf : List ℕ → Places
 placesOf row = said (boundsOf row) (drop 1 row) Fine
 
--- "Names are ranges of one lent byte slice": a name in `names` bytes
-abbrev pub within : ℕ → ℕ → ℕ → Bool
-within start length names = leb (start + length) names
+-- "Names are ranges of one lent byte slice": whether a range lies in `names` bytes
+abbrev pub nameInside : ℕ → ℕ → ℕ → Bool
+nameInside start length names = leb (start + length) names
 
 -- whether the name of a label (start, length) or a jump (condition, start, length) lies in the names
 abbrev pub inside : ℕ → ℕ → ℕ → ℕ → ℕ → Bool
-inside kind a b c names = lookup kind ((48, within a b names) ∷ (49, within b c names) ∷ []) true
+inside kind a b c names = lookup kind ((48, nameInside a b names) ∷ (49, nameInside b c names) ∷ []) true
 
 -- 2 before 4
 abbrev pub settled : Bool → Places → Verdict

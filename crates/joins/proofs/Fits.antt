@@ -16,7 +16,7 @@ use Rattle.places.specs.Items.{isLabel, isJump, total, place, nest}
 use Rattle.places.specs.Build.{deepest}
 use Rattle.machine.specs.declared.State.{State}
 use Rattle.machine.specs.Machine.{check, Rooming, Within, ReadFine}
-use Rattle.joins.proofs.Checks.{end-good}
+use Rattle.machine.proofs.Checks.{end-good}
 use Rattle.joins.proofs.Prefix.{mem, state-is, good-at}
 
 pub record Fits (names : List ℕ) (it : ℕ → Read) (p l j k : List ℕ) (i : ℕ) : Type 0 where

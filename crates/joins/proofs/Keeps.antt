@@ -22,7 +22,7 @@ use Rattle.prefixes.proofs.Verdicts.{refused-good}
 use Rattle.machine.specs.declared.State.{State}
 use Rattle.machine.specs.Machine.{Mem, memOf, check, next, zeros3, deeper, countNumber, modeNumber, topPlace, topForm, Entries, Starts, Rooming, GoodFor, ReadFine}
 use Rattle.machine.specs.Fold.{zeroState}
-use Rattle.joins.proofs.Checks.{instruction-good, label-good, jump-good, begin-good, end-good}
+use Rattle.machine.proofs.Checks.{instruction-good, label-good, jump-good, begin-good, end-good}
 use Rattle.joins.proofs.Stores.{getD-sets-below, getD-sets-in}
 
 -- ---- no row changes a buffer's length

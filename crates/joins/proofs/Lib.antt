@@ -1,9 +1,7 @@
-pub mod Checks
 pub mod Which
 pub mod Stores
 pub mod Keeps
 pub mod Fine
-pub mod Steps
 pub mod Along
 pub mod Prefix
 pub mod Fits
