@@ -8,7 +8,7 @@ PARTIAL := --partial
 # What runs a program for x86-64: nothing on such a machine, `tools/run` on another.
 X86_64 := $(if $(filter x86_64,$(shell uname -m)),,sh tools/run)
 
-.PHONY: help run test oracle sample link compare compare-short speed
+.PHONY: help run test docs docs-check oracle sample link compare compare-short speed
 
 help: ## this list
 	@sed -n 's/^\([a-z-]*\):.*## \(.*\)/make \1|\2/p' Makefile | column -t -s '|'
@@ -19,6 +19,17 @@ run: ## build the bench program and run it on KERNEL (default: examples/branch.k
 
 test: ## the verdict: prove every crate from nothing, try the must-fail edits, run the programs
 	@rt ci
+
+docs: ## print anew what the documents take from the definitions: docs/FORMS.md, its pictures, the table in docs/PROVED.md
+	@python3 tools/forms
+	@python3 tools/believed
+
+docs-check: ## check that the documents are what the definitions and the programs say
+	@python3 tools/forms --check
+	@python3 tools/believed --check
+	@mkdir -p target
+	@rt check bench layouts >target/docs-check.log || { tail -n 5 target/docs-check.log; exit 1; }
+	@python3 tools/examples
 
 oracle: ## build the driver over the original Rust (QC_ASM=folder of its sources)
 	@sh oracle/build

@@ -41,12 +41,12 @@ abbrev pub inside : ℕ → ℕ → ℕ → ℕ → ℕ → Bool
 inside kind a b c names = lookup kind ((48, nameInside a b names) ∷ (49, nameInside b c names) ∷ []) true
 
 -- 2 before 4
-abbrev pub settled : Bool → Places → Verdict
-settled false places = Refused Row
-settled true Fine = Good
-settled true Bad = Refused Row
-settled true (Code v) = Refused (InvalidUniversalRegister v)
+abbrev pub decided : Bool → Places → Verdict
+decided false places = Refused Row
+decided true Fine = Good
+decided true Bad = Refused Row
+decided true (Code v) = Refused (InvalidUniversalRegister v)
 
 -- refusals 2 and 4 of a row, over `names` bytes of names
 unfoldable pub checkOf : List ℕ → ℕ → Verdict
-checkOf row names = settled (inside (at row 0) (at row 1) (at row 2) (at row 3) names) (placesOf row)
+checkOf row names = decided (inside (at row 0) (at row 1) (at row 2) (at row 3) names) (placesOf row)

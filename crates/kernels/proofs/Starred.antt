@@ -18,22 +18,22 @@ use Rattle.places.specs.declared.Answer.the-variants.{Accepted, Refused}
 use Rattle.places.specs.Build.{Out, buildOf}
 
 -- a row without its trailing zeros, and rows one after the other
-abbrev row : List ℕ → List ℕ
+abbrev pub row : List ℕ → List ℕ
 row fields = take 17 (fields ++ replicate 17 0)
 
-abbrev rows : List (List ℕ) → List ℕ
+abbrev pub rows : List (List ℕ) → List ℕ
 rows [] = []
 rows (fs ∷ kernel) = row fs ++ rows kernel
 
 -- a build without names, in buffers of sevens
-abbrev build : List (List ℕ) → Out
+abbrev pub build : List (List ℕ) → Out
 build kernel = buildOf (rows kernel) [] (replicate 12 7) [] [] (replicate 12 7)
 
 -- accepted, with these parcels at the front and the rest as lent; refused, with this refusal
-abbrev Gives : List (List ℕ) → List ℕ → Type 0
+abbrev pub Gives : List (List ℕ) → List ℕ → Type 0
 Gives kernel parcels = (build kernel .answer ≡ Accepted (length parcels)) × (build kernel .P ≡ take 12 (parcels ++ replicate 12 7))
 
-abbrev Refuses : List (List ℕ) → Refusal → Type 0
+abbrev pub Refuses : List (List ℕ) → Refusal → Type 0
 Refuses kernel refusal = build kernel .answer ≡ Refused refusal
 
 pub starred :

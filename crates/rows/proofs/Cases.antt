@@ -7,7 +7,7 @@ use mathlib.Core.Path.{_≡_, refl}
 use borrow.Author.Tests.{leb-true}
 use lib.Dec.{eqb}
 use Rattle.bounds.specs.Tables.{at}
-use Rattle.bounds.specs.Checks.{checkOf, placesOf, settled, nameInside, inside}
+use Rattle.bounds.specs.Checks.{checkOf, placesOf, decided, nameInside, inside}
 use Rattle.bounds.specs.declared.Places.{Places}
 use Rattle.bounds.specs.declared.Places.the-variants.{Fine, Bad, Code}
 use Rattle.computes.specs.declared.Made.{Made}
@@ -22,18 +22,18 @@ use Rattle.rows.specs.declared.Beside.the-variants as beside
 use Rattle.rows.specs.declared.Read.{Read}
 use Rattle.rows.specs.declared.Read.the-variants.{Item, Refused}
 use Rattle.rows.specs.Fields.{conditionOf, countOf, modeOf, instructionOf}
-use Rattle.rows.specs.Rows.{computeOf, besideOf, dmOf, pmOf, accessOf, computeItem, dualMove, memoryMove, itemOf, after, readOf}
+use Rattle.rows.specs.Rows.{computeOf, besideOf, dmOf, pmOf, accessOf, computeItem, dualItem, memoryItem, itemOf, after, readOf}
 
 module _ (P : Read → Type 0) (refused : (r : Refusal) → P (Refused r)) (instruction : (v : VisaInstruction) → P (Item (item.Instruction v))) where
   of-compute : (m : Made) → P (computeItem m)
   of-compute (made.Made compute) = instruction _
   of-compute (made.Refused r) = refused r
 
-  of-dual : (dm pm : DataAccess) (b : Beside) → P (dualMove dm pm b)
+  of-dual : (dm pm : DataAccess) (b : Beside) → P (dualItem dm pm b)
   of-dual dm pm (beside.Compute compute) = instruction _
   of-dual dm pm (beside.Refused r) = refused r
 
-  of-memory : (access : MemoryAccess) (b : Beside) → P (memoryMove access b)
+  of-memory : (access : MemoryAccess) (b : Beside) → P (memoryItem access b)
   of-memory access (beside.Compute compute) = instruction _
   of-memory access (beside.Refused r) = refused r
 
@@ -49,7 +49,7 @@ module _ (P : Read → Type 0) (refused : (r : Refusal) → P (Refused r)) (inst
   chosen false true l j label jump rest pl pj pr e = pj e
   chosen false false l j label jump rest pl pj pr e = pr
 
-  of-row : (t : Bool) (places : Places) (r : Read) → (t ≡ true → P r) → P (after (settled t places) r)
+  of-row : (t : Bool) (places : Places) (r : Read) → (t ≡ true → P r) → P (after (decided t places) r)
   of-row false places r h = refused _
   of-row true Fine r h = h refl
   of-row true Bad r h = refused _

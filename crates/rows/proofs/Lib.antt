@@ -3,3 +3,4 @@ pub mod Named
 pub mod Counted
 pub mod Limit
 pub mod Readings
+pub mod Kept

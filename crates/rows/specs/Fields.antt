@@ -28,8 +28,8 @@ use Rattle.items.specs.declared.LoopMode.the-variants.{E2Active, F1Active}
 use Rattle.items.specs.declared.LoopCount.{LoopCount}
 use Rattle.items.specs.declared.LoopCount.the-variants as count
 
--- A number within its bound has a line in each table below, and is a byte where a register is made of it. For any other number
--- a table's last line stands.
+-- A number within its bound has a line in each table below, and is a byte where a register is made of it, so that the remainders below
+-- change nothing: `bytes-kept` and `counts-kept` in proofs/Kept.antt. For any other number a table's last line stands.
 
 -- data, index and modify registers, and universal codes
 abbrev pub reg : ℕ → Register

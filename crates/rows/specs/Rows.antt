@@ -79,21 +79,21 @@ abbrev pub computeItem : Made → Read
 computeItem (made.Made compute) = read.Item (item.Instruction (visa.Compute compute))
 computeItem (made.Refused refusal) = read.Refused refusal
 
-abbrev pub dualMove : DataAccess → DataAccess → Beside → Read
-dualMove dm pm (Compute compute) = read.Item (item.Instruction (visa.DualMove compute dm pm))
-dualMove dm pm (Refused refusal) = read.Refused refusal
+abbrev pub dualItem : DataAccess → DataAccess → Beside → Read
+dualItem dm pm (Compute compute) = read.Item (item.Instruction (visa.DualMove compute dm pm))
+dualItem dm pm (Refused refusal) = read.Refused refusal
 
-abbrev pub memoryMove : MemoryAccess → Beside → Read
-memoryMove access (Compute compute) = read.Item (item.Instruction (visa.MemoryMove compute access))
-memoryMove access (Refused refusal) = read.Refused refusal
+abbrev pub memoryItem : MemoryAccess → Beside → Read
+memoryItem access (Compute compute) = read.Item (item.Instruction (visa.MemoryMove compute access))
+memoryItem access (Refused refusal) = read.Refused refusal
 
 -- the item of a row within its bounds, or 17, 18 or 19 of its compute
 unfoldable pub itemOf : List ℕ → Read
 itemOf row =
     lookup (at row 0)
     ((32, computeItem (computeOf row)) ∷
-    (33, dualMove (dmOf row) (pmOf row) (besideOf row)) ∷
-    (34, memoryMove (accessOf row) (besideOf row)) ∷
+    (33, dualItem (dmOf row) (pmOf row) (besideOf row)) ∷
+    (34, memoryItem (accessOf row) (besideOf row)) ∷
     (48, read.Item (item.Label (at row 1) (at row 2))) ∷
     (49, read.Item (item.Jump (conditionOf (at row 1)) (at row 2) (at row 3))) ∷
     (50, read.Item (item.LoopBegin (countOf (at row 1) (at row 2)) (modeOf (at row 3)))) ∷

@@ -3,7 +3,7 @@ ghost use mathlib.Core.Path.{_≡_};
 ghost use Prim.Native.Nat.{_+_, _*_, _<_, _≤_};
 ghost use lib.ListN.{length, take, drop};
 ghost use Rattle.rows.specs.Fields.{conditionOf, directionOf, updateOf, aluOpOf, modeOf, countOf, scalarOf, transferOf, otherOf, instructionOf};
-ghost use Rattle.rows.specs.Rows.{wellFormed, multiOf, singleOf, computeOf, besideOf, dataAccessOf, memoryAccessOf, computeItem, dualMove, memoryMove, itemOf, readOf};
+ghost use Rattle.rows.specs.Rows.{wellFormed, multiOf, singleOf, computeOf, besideOf, dataAccessOf, memoryAccessOf, computeItem, dualItem, memoryItem, itemOf, readOf};
 use computes::Made;
 use items::AluOp;
 use items::Condition;
@@ -321,8 +321,8 @@ fn compute_item(made: Made) -> Read
 }
 
 // The dual move, or the compute's refusal.
-fn dual_move(dm: DataAccess, pm: DataAccess, beside: Beside) -> Read
-    ensures { λ r. ⌜ r ≡ dualMove dm pm beside ⌝ }
+fn dual_item(dm: DataAccess, pm: DataAccess, beside: Beside) -> Read
+    ensures { λ r. ⌜ r ≡ dualItem dm pm beside ⌝ }
 {
     match beside {
         Beside::Compute(compute) => Read::Item(Item::Instruction(VisaInstruction::DualMove {
@@ -335,8 +335,8 @@ fn dual_move(dm: DataAccess, pm: DataAccess, beside: Beside) -> Read
 }
 
 // The memory move, or the compute's refusal.
-fn memory_move(access: MemoryAccess, beside: Beside) -> Read
-    ensures { λ r. ⌜ r ≡ memoryMove access beside ⌝ }
+fn memory_item(access: MemoryAccess, beside: Beside) -> Read
+    ensures { λ r. ⌜ r ≡ memoryItem access beside ⌝ }
 {
     match beside {
         Beside::Compute(compute) => Read::Item(Item::Instruction(VisaInstruction::MemoryMove {
@@ -361,11 +361,11 @@ fn item_of(row: &[u32]) -> Read
         33 => {
             let dm = data_access_of(row[9], row[10], row[11], row[12]);
             let pm = data_access_of(row[13], row[14], row[15], row[16]);
-            dual_move(dm, pm, beside_of(row))
+            dual_item(dm, pm, beside_of(row))
         }
         34 => {
             let access = memory_access_of(row[9], row[10], row[11], row[12], row[13]);
-            memory_move(access, beside_of(row))
+            memory_item(access, beside_of(row))
         }
         48 => Read::Item(Item::Label {
             start: a,

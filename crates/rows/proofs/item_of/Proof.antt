@@ -57,8 +57,8 @@ data-access-of-requires-2 c κs = search needs
 beside-of-requires : tie.Need-beside-of-requires
 beside-of-requires c κs = search needs
 
-dual-move-requires : tie.Need-dual-move-requires
-dual-move-requires c κs = search needs
+dual-item-requires : tie.Need-dual-item-requires
+dual-item-requires c κs = search needs
 
 shared-slice-read-memory-access-of : tie.Need-shared-slice-read-memory-access-of
 shared-slice-read-memory-access-of c = search needs
@@ -81,8 +81,8 @@ memory-access-of-requires c κs = search needs
 beside-of-requires-2 : tie.Need-beside-of-requires-2
 beside-of-requires-2 c κs = search needs
 
-memory-move-requires : tie.Need-memory-move-requires
-memory-move-requires c κs = search needs
+memory-item-requires : tie.Need-memory-item-requires
+memory-item-requires c κs = search needs
 
 condition-of-requires : tie.Need-condition-of-requires
 condition-of-requires c κs = search needs
@@ -102,11 +102,11 @@ returns c = rw (c .before .before .match .keys1) (c .compute-item .ensures ∙ r
 
 returns-2 : tie.Need-returns-2
 unfolding itemOf
-returns-2 c = rw (c .before .before .before .before .before .before .before .before .before .before .before .before .match .keys2) (c .dual-move .ensures ∙ rw (c .before .before .before .before .before .before .before .data-access-of .ensures, c .before .before .data-access-of2 .ensures, c .before .beside-of .ensures))
+returns-2 c = rw (c .before .before .before .before .before .before .before .before .before .before .before .before .match .keys2) (c .dual-item .ensures ∙ rw (c .before .before .before .before .before .before .before .data-access-of .ensures, c .before .before .data-access-of2 .ensures, c .before .beside-of .ensures))
 
 returns-3 : tie.Need-returns-3
 unfolding itemOf
-returns-3 c = rw (c .before .before .before .before .before .before .before .before .match .keys3) (c .memory-move .ensures ∙ rw (c .before .before .memory-access-of .ensures, c .before .beside-of2 .ensures))
+returns-3 c = rw (c .before .before .before .before .before .before .before .before .match .keys3) (c .memory-item .ensures ∙ rw (c .before .before .memory-access-of .ensures, c .before .beside-of2 .ensures))
 
 returns-4 : tie.Need-returns-4
 unfolding itemOf
@@ -149,7 +149,7 @@ item-of-spec =
     shared-slice-read-data-access-of-8
     data-access-of-requires-2
     beside-of-requires
-    dual-move-requires
+    dual-item-requires
     shared-slice-read-memory-access-of
     shared-slice-read-memory-access-of-2
     shared-slice-read-memory-access-of-3
@@ -157,7 +157,7 @@ item-of-spec =
     shared-slice-read-memory-access-of-5
     memory-access-of-requires
     beside-of-requires-2
-    memory-move-requires
+    memory-item-requires
     condition-of-requires
     loop-count-of-requires
     loop-mode-of-requires
