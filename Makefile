@@ -3,12 +3,10 @@ SHELL := /bin/sh
 KERNEL ?= examples/branch.kernel
 LINK := target/staticlib/liblink.a
 ORACLE := target/oracle
-# `--partial` lets a library pass that lacks some of its functions: what it lacks is left out, with a word.
-PARTIAL := --partial
 # What runs a program for x86-64: nothing on such a machine, `tools/run` on another.
 X86_64 := $(if $(filter x86_64,$(shell uname -m)),,sh tools/run)
 
-.PHONY: help run test docs docs-check oracle sample link compare compare-short speed
+.PHONY: help run test docs walks docs-check oracle sample link compare compare-short check-memory speed
 
 help: ## this list
 	@sed -n 's/^\([a-z-]*\):.*## \(.*\)/make \1|\2/p' Makefile | column -t -s '|'
@@ -24,7 +22,11 @@ docs: ## print anew what the documents take from the definitions: docs/FORMS.md,
 	@python3 tools/forms
 	@python3 tools/believed
 
-docs-check: ## check that the documents are what the definitions and the programs say
+walks: ## print anew the proofs of the functions that hold the lent loop records
+	@python3 tools/walks
+
+docs-check: ## check that the documents, and the printed proofs, are what the definitions, the programs and the scripts say
+	@python3 tools/walks --check
 	@python3 tools/forms --check
 	@python3 tools/believed --check
 	@mkdir -p target
@@ -42,15 +44,20 @@ sample: oracle ## make the stored answers of the original Rust anew
 
 compare: link ## hold the port against the original Rust: rows, lists, the Rust crate and the C example, some minutes
 	@LINK_LIB=target/staticlib sh oracle/build compare
-	@$(X86_64) $(ORACLE)/compare all $(PARTIAL)
-	@PARTIAL=$(PARTIAL) sh include/test
-	@PARTIAL=$(PARTIAL) sh rust/test
+	@$(X86_64) $(ORACLE)/compare all
+	@sh include/test
+	@sh rust/test
 
 compare-short: link ## the same on fewer inputs, a minute or two
 	@LINK_LIB=target/staticlib sh oracle/build compare
-	@$(X86_64) $(ORACLE)/compare all --short $(PARTIAL)
-	@PARTIAL=$(PARTIAL) sh include/test
+	@$(X86_64) $(ORACLE)/compare all --short
+	@sh include/test
 
-speed: link ## time the port against the original Rust (on an x86-64 machine only)
+check-memory: link ## run the comparison on few inputs under valgrind, a minute
 	@LINK_LIB=target/staticlib sh oracle/build compare
-	@$(X86_64) $(ORACLE)/compare speed rows
+	@sh include/test
+	@sh oracle/check-memory
+
+speed: link ## time the port against the original Rust (on x86-64), and write docs/SPEED.md and its plot
+	@LINK_LIB=target/staticlib sh oracle/build compare
+	@$(X86_64) $(ORACLE)/compare speed --write docs

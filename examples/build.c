@@ -31,7 +31,7 @@ static const uint32_t astray[][LHODRUPESH_ROW] = {
 static uint16_t parcels[64];
 static uint32_t labels[8 * LHODRUPESH_LABEL_ENTRY];
 static uint32_t jumps[8 * LHODRUPESH_JUMP_ENTRY];
-static lhodrupesh_loop loops[4 * LHODRUPESH_LOOP_RECORD];
+static struct lhodrupesh_loop loops[4];
 
 static struct lhodrupesh_told build(const uint32_t *rows, size_t rows_len)
 {

@@ -44,12 +44,13 @@ extern "C" {
 #define LHODRUPESH_MOST_JUMPS 4096
 #define LHODRUPESH_MOST_LOOPS 64
 
-/*
- * The elements of the lent loop table, and how many make a record (place, first body entry, count,
- * mode). A table of n records is an array of n * LHODRUPESH_LOOP_RECORD elements.
- */
-typedef uint32_t lhodrupesh_loop;
-#define LHODRUPESH_LOOP_RECORD 4
+/* A record of the lent table of open loops. At rest it is zero. */
+struct lhodrupesh_loop {
+    uint32_t place; /* of the loop start */
+    uint32_t first; /* the first body entry */
+    uint32_t count; /* an immediate count; 65536 and the code of a register */
+    uint32_t mode;  /* in declaration order */
+};
 
 /* What a call on a list answers. */
 struct lhodrupesh_told {
@@ -91,7 +92,7 @@ struct lhodrupesh_one lhodrupesh_instruction(const uint32_t *row, size_t row_len
  *   parcels, parcels_len   room for parcels
  *   labels, labels_len     room for label entries: the length over 3, rounded down
  *   jumps, jumps_len       room for waiting jumps: the length over 2, rounded down
- *   loops, loops_len       room for open loops: the length over LHODRUPESH_LOOP_RECORD, rounded down
+ *   loops, loops_len       room for open loops, a record each
  *
  * Accepted: the parcels stand at the front; the labels (start, length, place) and jumps (place, row)
  * stand in item order at the front of theirs; the loop records that were used are zero. Refused:
@@ -104,7 +105,7 @@ struct lhodrupesh_told lhodrupesh_build(const uint32_t *rows, size_t rows_len,
                                         uint16_t *parcels, size_t parcels_len,
                                         uint32_t *labels, size_t labels_len,
                                         uint32_t *jumps, size_t jumps_len,
-                                        lhodrupesh_loop *loops, size_t loops_len);
+                                        struct lhodrupesh_loop *loops, size_t loops_len);
 
 /*
  * How many parcels a list takes. Refused: 1; in the first row that has either, the row refusal (2, 4,

@@ -16,7 +16,7 @@ pub mod reading;
 pub mod refusal;
 pub mod row;
 pub mod rows;
-#[cfg(feature = "same")]
+#[cfg(feature = "linked")]
 pub mod same;
 pub mod sample_benches;
 pub mod sample_lists;

@@ -25,7 +25,6 @@ fn of_plain(refusal: Refusal) -> crate::refusal::Refusal {
     crate::refusal::Refusal::with(refusal.number(), first, second)
 }
 
-#[cfg(any(feature = "build", feature = "counts", feature = "slots"))]
 mod lists {
     use lhodrupesh::c;
     use lhodrupesh::plain::{Name, Refusal};
@@ -53,7 +52,6 @@ mod lists {
     }
 }
 
-#[cfg(feature = "build")]
 pub mod whole {
     use lhodrupesh::c;
     use lhodrupesh::plain::{self, LoopRecord};
@@ -85,7 +83,6 @@ pub mod whole {
 }
 
 /// Each answers twice: by the module for C and by the plain interface.
-#[cfg(feature = "counts")]
 pub mod counts {
     use lhodrupesh::{c, plain};
 
@@ -104,7 +101,6 @@ pub mod counts {
 }
 
 /// Answers twice: by the module for C and by the plain interface.
-#[cfg(feature = "slots")]
 pub fn slot_check(list: &crate::list::List) -> [crate::second::Told; 2] {
     let crate::list::List { numbers, names } = list;
     let plain = plain::slot_check(numbers, names).map(|()| 0);
@@ -112,7 +108,6 @@ pub fn slot_check(list: &crate::list::List) -> [crate::second::Told; 2] {
 }
 
 /// Each takes parcels and lent bytes, and answers as C has it.
-#[cfg(feature = "bytes")]
 pub mod bytes {
     use lhodrupesh::plain;
 

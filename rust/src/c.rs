@@ -1,5 +1,10 @@
 //! The library's C interface, each function behind a safe one: slices for pointers and lengths, the
 //! answers as the C header has them. `include/lhodrupesh.h` documents every argument and answer.
+//!
+//! ```
+//! let nop = [38, 0, 0, 0, 0, 0, 0, 0, 0, 0, 0, 0, 0, 0, 0, 0, 0];
+//! assert_eq!(lhodrupesh::c::parcel_count(&nop, &[]).count, 1);
+//! ```
 
 #![allow(unsafe_code)]
 
@@ -81,15 +86,11 @@ pub struct LoopRecord {
     pub place: u32,
     /// The first body entry.
     pub first: u32,
-    /// The count.
+    /// The count: an immediate one, or 65536 and the code of a register.
     pub count: u32,
-    /// The mode.
+    /// The mode, in declaration order.
     pub mode: u32,
 }
-
-/// What the library counts the loop table in: numbers, so many to a record.
-type LoopPlace = u32;
-const LOOP_PLACES: usize = size_of::<LoopRecord>() / size_of::<LoopPlace>();
 
 extern "C" {
     fn lhodrupesh_instruction(row: *const u32, row_len: usize) -> One;
@@ -105,7 +106,7 @@ extern "C" {
         labels_len: usize,
         jumps: *mut u32,
         jumps_len: usize,
-        loops: *mut LoopPlace,
+        loops: *mut LoopRecord,
         loops_len: usize,
     ) -> Told;
 
@@ -183,8 +184,8 @@ pub fn build(
             labels.len(),
             jumps.as_mut_ptr(),
             jumps.len(),
-            loops.as_mut_ptr().cast::<LoopPlace>(),
-            loops.len() * LOOP_PLACES,
+            loops.as_mut_ptr(),
+            loops.len(),
         )
     }
 }

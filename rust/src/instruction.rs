@@ -5,6 +5,13 @@ use crate::row::{self, Row};
 use crate::{Error, Register};
 
 /// The bytes of a full-width instruction.
+///
+/// ```
+/// use lhodrupesh::{VisaInstruction, INSTRUCTION_BYTES};
+///
+/// let bytes = VisaInstruction::WideNop.encode().unwrap();
+/// assert_eq!(bytes.len(), INSTRUCTION_BYTES);
+/// ```
 pub const INSTRUCTION_BYTES: usize = 6;
 
 /// A scalar instruction. Values and addresses are raw 32-bit patterns.

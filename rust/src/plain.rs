@@ -38,20 +38,67 @@ pub use crate::c::LoopRecord;
 pub use crate::refusal::{Name, Refusal};
 
 /// The numbers of a row.
+///
+/// ```
+/// let rows = vec![0; 3 * lhodrupesh::plain::ROW];
+/// assert_eq!(lhodrupesh::plain::instruction_count(&rows, &[]), Ok(3));
+/// ```
 pub const ROW: usize = 17;
 /// The numbers of a label entry: start, length, place.
+///
+/// ```
+/// let room_for_two = [0_u32; 2 * lhodrupesh::plain::LABEL_ENTRY];
+/// assert_eq!(room_for_two.len(), 6);
+/// ```
 pub const LABEL_ENTRY: usize = 3;
 /// The numbers of a waiting jump: place, row.
+///
+/// ```
+/// let room_for_two = [0_u32; 2 * lhodrupesh::plain::JUMP_ENTRY];
+/// assert_eq!(room_for_two.len(), 4);
+/// ```
 pub const JUMP_ENTRY: usize = 2;
 /// The most rows of a list.
+///
+/// ```
+/// use lhodrupesh::plain::{self, Refusal, MOST_ROWS, ROW};
+///
+/// let rows = vec![0; ROW * (MOST_ROWS + 1)];
+/// assert_eq!(plain::parcel_count(&rows, &[]), Err(Refusal::Rows));
+/// ```
 pub const MOST_ROWS: usize = 4_194_304;
 /// The most parcels of a build.
+///
+/// ```
+/// assert_eq!(lhodrupesh::plain::MOST_PARCELS, 1 << 24);
+/// ```
 pub const MOST_PARCELS: usize = 16_777_216;
 /// The most labels of a build.
+///
+/// ```
+/// use lhodrupesh::plain::{LABEL_ENTRY, MOST_LABELS};
+///
+/// let as_much_as_is_used = vec![0_u32; LABEL_ENTRY * MOST_LABELS];
+/// assert_eq!(as_much_as_is_used.len(), 12_288);
+/// ```
 pub const MOST_LABELS: usize = 4_096;
 /// The most jumps of a build.
+///
+/// ```
+/// use lhodrupesh::plain::{JUMP_ENTRY, MOST_JUMPS};
+///
+/// let as_much_as_is_used = vec![0_u32; JUMP_ENTRY * MOST_JUMPS];
+/// assert_eq!(as_much_as_is_used.len(), 8_192);
+/// ```
 pub const MOST_JUMPS: usize = 4_096;
 /// The most loops open at once.
+///
+/// ```
+/// use lhodrupesh::plain::{LoopRecord, MOST_LOOPS};
+///
+/// let as_much_as_is_used = [LoopRecord::default(); MOST_LOOPS];
+/// assert_eq!(as_much_as_is_used.len(), 64);
+/// ```
 pub const MOST_LOOPS: usize = 64;
 
 /// The buffers lent to a build. Of each, at most the limit is used.

@@ -6,13 +6,38 @@ use crate::{error, plain};
 use crate::{IndexRegister, Instruction, ModifyRegister, Register, UniversalRegister, VisaError};
 
 /// MODE1's bit 21: the second processing element takes part.
+///
+/// ```
+/// use lhodrupesh::{VisaInstruction, MODE1_PEYEN};
+///
+/// let on = VisaInstruction::BitSetMode1 { mask: MODE1_PEYEN };
+/// assert_eq!(on.parcels(), Ok(vec![0x1402, 0x0020, 0x0000]));
+/// ```
 pub const MODE1_PEYEN: u32 = 1 << 21;
 /// MODE1's bit 22: loads through I9 go to both processing elements.
+///
+/// ```
+/// use lhodrupesh::{VisaInstruction, MODE1_BDCST9};
+///
+/// let on = VisaInstruction::BitSetMode1 { mask: MODE1_BDCST9 };
+/// assert_eq!(on.parcels(), Ok(vec![0x1402, 0x0040, 0x0000]));
+/// ```
 pub const MODE1_BDCST9: u32 = 1 << 22;
 /// MODE1's bit 23: loads through I1 go to both processing elements.
+///
+/// ```
+/// use lhodrupesh::{VisaInstruction, MODE1_BDCST1};
+///
+/// let off = VisaInstruction::BitClearMode1 { mask: MODE1_BDCST1 };
+/// assert_eq!(off.parcels(), Ok(vec![0x1422, 0x0080, 0x0000]));
+/// ```
 pub const MODE1_BDCST1: u32 = 1 << 23;
 
 /// The parcels of [`VisaInstruction::LeafReturn`].
+///
+/// ```
+/// assert_eq!(lhodrupesh::LEAF_RETURN_PARCELS[0], 0x4dfe);
+/// ```
 pub const LEAF_RETURN_PARCELS: [u16; 6] = [0x4dfe, 0x0e3f, 0x083f, 0x343f, 0x1901, 0x0001];
 
 /// When a jump is taken.

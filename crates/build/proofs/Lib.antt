@@ -1,3 +1,3 @@
-pub mod Reading
-pub mod Taken
 pub mod Settled
+pub mod Table
+pub mod Whole

@@ -32,7 +32,7 @@ pub fn settle(condition: Condition, p: usize, q: u32, parcels: &mut [u16]) -> Ve
         }
         Verdict::Good => {}
     }
-    tables::mend(parcels, p, records::settled(form));
+    writer::mend(parcels, p, p, records::settled(form));
     Verdict::Good
 }
 

@@ -4,67 +4,35 @@ mod wipes;
 
 ghost use mathlib.Core.Path.{_≡_};
 ghost use Prim.Native.Nat.{_≤_};
-ghost use lib.ListN.{length};
-ghost use Rattle.places.specs.Items.{rowAt, rowsIn};
-ghost use Rattle.places.specs.Build.{part, nameOf, buildOf, Left};
-ghost use Rattle.machine.specs.Machine.{memOf, Rooming};
-ghost use Rattle.machine.specs.Fold.{zeroState, Passed};
-ghost use Rattle.machine.specs.Finish.{AimsFine, Used, finish};
-use machine::Pass;
-use machine::State;
-use machine::Step;
+ghost use lib.ListN.{length, replicate};
+ghost use Rattle.places.specs.Build.{part, nameOf, zeroLoop, buildOf, Left};
+ghost use Rattle.build.specs.Finish.{Finishing, Finished};
 use places::Answer;
+use places::OpenLoop;
 use places::Rooms;
-use refusals::Refusal;
 use refusals::Verdict;
+use taking::Taking;
 
-// The rows in turn, up to the first that is refused.
-pub fn take_rows(
-    rows: &[u32],
-    names: &[u8],
-    rooms: Rooms,
-    parcels: &mut [u16],
-    labels: &mut [u32],
-    jumps: &mut [u32],
-    loops: &mut [u32],
-) -> Pass
-    requires { ⌜ (rowsIn (now rows) ≤ 4194304) × Rooming rooms (length (now parcels)) (length (now labels)) (length (now jumps)) (length (now loops)) ⌝ }
-    ensures { λ r. ⌜ Passed (now (names .entry)) rooms (rowAt (now (rows .entry)) (now (names .entry))) (rowsIn (now (rows .entry))) (memOf zeroState (now (parcels .entry)) (now (labels .entry)) (now (jumps .entry)) (now (loops .entry))) r (now (parcels .exit)) (now (labels .exit)) (now (jumps .exit)) (now (loops .exit)) ⌝ }
-{
-    let n = rows.len() / 17;
-    let mut state = State::start();
-    let mut i = 0;
-    while i < n {
-        let read = rows::read_at(rows, i, names.len());
-        let step = state.step(rooms, read, i as u32, names, parcels, labels, jumps, loops);
-        match step {
-            Step::On(s) => {
-                state = s;
-            }
-            Step::Stop(r) => {
-                return Pass::Stopped(state, r);
-            }
-        }
-        i += 1;
-    }
-    Pass::Done(state)
-}
-
-// Once all rows are taken in: 23, then the waiting jumps in item order; a refusal leaves zeros in what the rows took.
+// Once all rows are taken in and every loop is closed: the rows' refusal, or the waiting jumps in item order; a refusal leaves zeros in
+// what the rows took.
 pub fn finish(
-    state: State,
     rows: &[u32],
     names: &[u8],
     parcels: &mut [u16],
     labels: &mut [u32],
     jumps: &mut [u32],
-    loops: &mut [u32],
+    t: Taking,
 ) -> Answer
-    requires { ⌜ (Used state (length (now parcels)) (length (now labels)) (length (now jumps)) (length (now loops))) × AimsFine (now names) (now labels) (state .labels) (now jumps) (rowsIn (now rows)) (state .jumps) (length (now parcels)) ⌝ }
-    ensures { λ r. ⌜ Left (finish (now (names .entry)) (rowAt (now (rows .entry)) (now (names .entry))) (Pass.Done state) (memOf state (now (parcels .entry)) (now (labels .entry)) (now (jumps .entry)) (now (loops .entry)))) r (now (parcels .exit)) (now (labels .exit)) (now (jumps .exit)) (now (loops .exit)) ⌝ }
+    requires { ⌜ Finishing (now rows) (now names) t (now parcels) (now labels) (now jumps) ⌝ }
+    ensures { λ r. ⌜ Finished (now (rows .entry)) (now (names .entry)) t (now (parcels .entry)) (now (labels .entry)) (now (jumps .entry)) r (now (parcels .exit)) (now (labels .exit)) (now (jumps .exit)) ⌝ }
 {
-    if 0 < state.depth {
-        return wipes::refused(Refusal::UnclosedLoop, state, parcels, labels, jumps, loops);
+    let state = t.state;
+    let verdict = t.verdict;
+    match verdict {
+        Verdict::Refused(r) => {
+            return wipes::refused(r, state, parcels, labels, jumps);
+        }
+        Verdict::Good => {}
     }
     let aims = jumps::aim_all(
         rows,
@@ -76,32 +44,61 @@ pub fn finish(
         state.jumps,
     );
     match aims {
-        Verdict::Refused(r) => wipes::refused(r, state, parcels, labels, jumps, loops),
+        Verdict::Refused(r) => wipes::refused(r, state, parcels, labels, jumps),
         Verdict::Good => Answer::Accepted(state.at as u32),
     }
 }
 
 // Builds the rows: the answer, and in the lent buffers the parcels, label entries and waiting jumps of a valid list, or
-// zeros in what the rows before a refusal took.
+// zeros in what the rows before a refusal took; the loop records that were used are zero.
 pub fn build(
     rows: &[u32],
     names: &[u8],
     parcels: &mut [u16],
     labels: &mut [u32],
     jumps: &mut [u32],
-    loops: &mut [u32],
+    loops: &mut [OpenLoop],
 ) -> Answer
     ensures { λ r. ⌜ Left (buildOf (now (rows .entry)) (now (names .entry)) (now (parcels .entry)) (now (labels .entry)) (now (jumps .entry)) (now (loops .entry))) r (now (parcels .exit)) (now (labels .exit)) (now (jumps .exit)) (now (loops .exit)) ⌝ }
 {
-    if !rows::well_formed(rows) {
-        return Answer::Refused(Refusal::RowSlice);
-    }
     let rooms = Rooms::of(parcels.len(), labels.len(), jumps.len(), loops.len());
-    let passed = take_rows(rows, names, rooms, parcels, labels, jumps, loops);
-    match passed {
-        Pass::Stopped(state, r) => wipes::refused(r, state, parcels, labels, jumps, loops),
-        Pass::Done(state) => finish(state, rows, names, parcels, labels, jumps, loops),
-    }
+    let taken = taking::take_rows(
+        rows,
+        names,
+        rooms,
+        &mut *parcels,
+        &mut *labels,
+        &mut *jumps,
+        &mut *loops,
+    );
+    finish(rows, names, &mut *parcels, &mut *labels, &mut *jumps, taken)
+}
+
+// The same with 64 loop records of its own, for callers that have none to lend.
+pub fn build_alone(
+    rows: &[u32],
+    names: &[u8],
+    parcels: &mut [u16],
+    labels: &mut [u32],
+    jumps: &mut [u32],
+) -> Answer
+    ensures { λ r. ⌜ Left (buildOf (now (rows .entry)) (now (names .entry)) (now (parcels .entry)) (now (labels .entry)) (now (jumps .entry)) (replicate 64 zeroLoop)) r (now (parcels .exit)) (now (labels .exit)) (now (jumps .exit)) (buildOf (now (rows .entry)) (now (names .entry)) (now (parcels .entry)) (now (labels .entry)) (now (jumps .entry)) (replicate 64 zeroLoop) .K) ⌝ }
+{
+    let zero = OpenLoop {
+        place: 0,
+        first: 0,
+        count: 0,
+        mode: 0,
+    };
+    let mut loops = [zero; 64];
+    build(
+        rows,
+        names,
+        &mut *parcels,
+        &mut *labels,
+        &mut *jumps,
+        &mut loops,
+    )
 }
 
 // A range of the names, empty if it lies outside them.

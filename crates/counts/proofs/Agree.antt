@@ -14,6 +14,7 @@ use Rattle.rows.specs.declared.Read.the-variants as read
 use Rattle.rows.specs.Rows.{wellFormed}
 use Rattle.places.specs.declared.Rooms.{Rooms}
 use Rattle.places.specs.declared.Answer.the-variants as answer
+use Rattle.places.specs.declared.OpenLoop.{OpenLoop}
 use Rattle.places.specs.Items.{rowAt, rowsIn, place, roomsOf}
 use Rattle.places.specs.Build.{first, faults, firstOf, verdictAt, verdict, answerOf, buildOf}
 use Rattle.prefixes.proofs.Verdicts.{orElse-good, first-good, first-all, all-first, answer-good}
@@ -34,13 +35,13 @@ accepted-count Good m e = cc
 accepted-count (Refused r) m e = let z : _≡_ {A = ℕ} 0 1 = cc in absurd (omega arith)
 
 -- a good verdict of the build's leaves every row good
-rows-good : (names : List ℕ) (it : ℕ → Read) (n : ℕ) (p l j k : List ℕ) → verdict names it n p l j k ≡ Good → firstOf (λ i. rowVerdict encodes (it i)) n ≡ Good
+rows-good : (names : List ℕ) (it : ℕ → Read) (n : ℕ) (p l j : List ℕ) (k : List OpenLoop) → verdict names it n p l j k ≡ Good → firstOf (λ i. rowVerdict encodes (it i)) n ≡ Good
 rows-good names it n p l j k e =
     let rooms = roomsOf (length p) (length l) (length j) (length k) in
     let all = first-all (verdictAt names it n p l j k) n (orElse-good (firstOf (verdictAt names it n p l j k) n) _ e .0) in
     all-first (λ i. rowVerdict encodes (it i)) n (λ i h. taken-encodes names it rooms i (it i) (all i h))
 
-module _ (rows names p l j k : List ℕ) where
+module _ (rows names p l j : List ℕ) (k : List OpenLoop) where
   pub verdict-agrees : wellFormed (length rows) ≡ true → verdict names (rowAt rows names) (rowsIn rows) p l j k ≡ Good → countOf Parcels rows names ≡ Count (place (rowAt rows names) (rowsIn rows))
   verdict-agrees w e = rw (w, rows-good names (rowAt rows names) (rowsIn rows) p l j k e)
 

@@ -15,6 +15,7 @@ use Rattle.items.specs.declared.Item.the-variants.{Instruction, Label, Jump, Lo
 use Rattle.encode.specs.Encoding.{jumpForm}
 use Rattle.rows.specs.declared.Read.{Read}
 use Rattle.rows.specs.declared.Read.the-variants as read
+use Rattle.places.specs.declared.OpenLoop.{OpenLoop}
 use Rattle.places.specs.Items.{pick, size, isJump, total, place}
 use Rattle.places.specs.Build.{Found, at, nothing, labelled, closer, jumpOffset, jumpParcels, left, settled, gather}
 use Rattle.prefixes.proofs.Tests.{order, same-row}
@@ -110,7 +111,7 @@ module _ (names : List ℕ) (it : ℕ → Read) (n : ℕ) where
         (gather-eq (stage q) (stage (suc q)) n
         (λ x u. ⊎-elim (λ lt. other x (let g : x ≢ r = omega arith in g)) (λ ge. ⊎-elim (λ v. subst (λ (z : ℕ). stage q z ≡ stage (suc q) z) v same) (λ gt. other x (let g : x ≢ r = omega arith in g)) (eq-or-lt-of-le ge)) (order x r)))
 
-  module _ (p l j k : List ℕ) (f : Fits names it p l j k n) (fine : (q : ℕ) → ReadFine names (it q)) where
+  module _ (p l j : List ℕ) (k : List OpenLoop) (f : Fits names it p l j k n) (fine : (q : ℕ) → ReadFine names (it q)) where
     pub staged : (q : ℕ) → q ≤ total isJump it n → jumpsAt names it p l j k n f q ≡ gather (stage q) n ++ drop (place it n) p
     staged zero h = parcels-are names it p l j k fine n f ∙ ap (λ (x : List ℕ). x ++ drop (place it n) p) (gather-eq (parts names it n) (stage 0) n (λ r u. rw (le-ltb (total isJump it r) 0 (omega arith)) refl))
     staged (suc q) h =

@@ -11,6 +11,7 @@ use Rattle.items.specs.declared.Condition.{Condition}
 use Rattle.items.specs.declared.Item.the-variants.{Instruction, Label, Jump, LoopBegin, LoopEnd}
 use Rattle.rows.specs.declared.Read.{Read}
 use Rattle.rows.specs.declared.Read.the-variants as read
+use Rattle.places.specs.declared.OpenLoop.{OpenLoop}
 use Rattle.places.specs.Items.{isJump, total, place}
 use Rattle.places.specs.Build.{Found, at, nothing, labelled, reach, reaches, firstOf}
 use Rattle.prefixes.proofs.Tests.{order}
@@ -42,7 +43,7 @@ no-reach names it n i (read.Item (LoopBegin c m)) e = refl
 no-reach names it n i (read.Item LoopEnd) e = refl
 no-reach names it n i (read.Refused why) e = refl
 
-module _ (names : List ℕ) (it : ℕ → Read) (p l j k : List ℕ) (n : ℕ) (f : Fits names it p l j k n) where
+module _ (names : List ℕ) (it : ℕ → Read) (p l j : List ℕ) (k : List OpenLoop) (n : ℕ) (f : Fits names it p l j k n) where
   abbrev pub end : Mem
   end = mem it p l j k n
 

@@ -7,7 +7,7 @@ pub mod Prefix
 pub mod Fits
 pub mod Tables
 pub mod Scans
-pub mod Whole
+pub mod Waiting
 pub mod Loops
 pub mod Tops
 pub mod Names

@@ -9,6 +9,7 @@ use lib.ListN.{getD}
 use Rattle.items.specs.declared.Item.the-variants.{Label}
 use Rattle.rows.specs.declared.Read.{Read}
 use Rattle.rows.specs.declared.Read.the-variants as read
+use Rattle.places.specs.declared.OpenLoop.{OpenLoop}
 use Rattle.places.specs.Items.{pick, isLabel, total, place}
 use Rattle.places.specs.Build.{Found, at, nothing, isFound, orFound, bears, labelled}
 use Rattle.machine.specs.declared.Sought.{Sought}
@@ -65,7 +66,7 @@ or-placed it (at row) t i = refl
 or-placed it nothing true i = refl
 or-placed it nothing false i = refl
 
-module _ (names : List ℕ) (it : ℕ → Read) (p l j k : List ℕ) (n : ℕ) (f : Fits names it p l j k n) (a b : ℕ) where
+module _ (names : List ℕ) (it : ℕ → Read) (p l j : List ℕ) (k : List OpenLoop) (n : ℕ) (f : Fits names it p l j k n) (a b : ℕ) where
   abbrev T : List ℕ
   T = mem it p l j k n .L
 

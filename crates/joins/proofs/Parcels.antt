@@ -17,15 +17,16 @@ use Rattle.encode.specs.declared.Form.the-variants as form
 use Rattle.encode.specs.Encoding.{parcelsOf, loopForm}
 use Rattle.rows.specs.declared.Read.{Read}
 use Rattle.rows.specs.declared.Read.the-variants as read
+use Rattle.places.specs.declared.OpenLoop.{OpenLoop}
 use Rattle.places.specs.Items.{pick, about, size, place, nest}
 use Rattle.places.specs.Build.{Found, at, nothing, latest, opener, closer, settled, loopOffset, loopRow, loopParcels, gather}
 use Rattle.prefixes.proofs.Tests.{and-second}
 use Rattle.machine.specs.declared.State.{State}
-use Rattle.machine.specs.Machine.{Mem, next, zeros3, topPlace, topForm, ReadFine}
+use Rattle.machine.specs.Machine.{Mem, next, zeros3, topOf, topForm, ReadFine}
 use Rattle.joins.proofs.Stores.{sets-at, gather-eq, gather-length, gather-patch}
 use Rattle.joins.proofs.Prefix.{mem, state-is}
 use Rattle.joins.proofs.Fits.{Fits, fits-less}
-use Rattle.joins.proofs.Tops.{Opener, opener-at, top-place, top-form}
+use Rattle.joins.proofs.Tops.{Opener, opener-at, top-is, top-form}
 
 pub settled-length : (f : Form) → length (settled f) ≡ 3
 settled-length (form.Word w) = refl
@@ -81,7 +82,7 @@ module _ (names : List ℕ) (it : ℕ → Read) where
       let u = latest-low (λ q. eqb (about (it q) .opens) 1 && eqb (nest it q + 1) (nest it i)) i in
       sym (not-its-end i b (λ z. omega arith)) ∙ fresh b i (omega arith)
 
-  module _ (p l j k : List ℕ) (fine : (q : ℕ) → ReadFine names (it q)) where
+  module _ (p l j : List ℕ) (k : List OpenLoop) (fine : (q : ℕ) → ReadFine names (it q)) where
     abbrev M : ℕ → Mem
     M i = mem it p l j k i
 
@@ -112,8 +113,8 @@ module _ (names : List ℕ) (it : ℕ → Read) where
         let old : (q : ℕ) → q < i → q ≢ b → parts i q ≡ parts (suc i) q = λ q u g. ap (λ (y : Found). words y q (it q)) (not-its-end i q (λ z. g (sym z))) in
         let none : size (it i) ≡ 0 = ap size e in
         ap (λ (x : Read). next i x (M i) .P) e
-        ∙ ap (λ (s : State). sets (M i .P) (topPlace s (M i .K)) (settled (topForm s (M i .K)))) (state-is it p l j k names i)
-        ∙ ap₂ (λ (x : ℕ) (y : Form). sets (M i .P) x (settled y)) (top-place names it p l j k i (fits-less f) some) (top-form names it p l j k i (fits-less f) some (fine b))
+        ∙ ap (λ (s : State). sets (M i .P) (topOf s (M i .K) .place) (settled (topForm s (topOf s (M i .K))))) (state-is it p l j k names i)
+        ∙ ap₂ (λ (x : ℕ) (y : Form). sets (M i .P) x (settled y)) (ap (λ (y : OpenLoop). y .place) (top-is names it p l j k i (fits-less f) some)) (top-form names it p l j k i (fits-less f) some (fine b))
         ∙ ap₂ (λ (x y : List ℕ). sets x (place it b) y) h new
         ∙ gather-patch (parts i) (parts (suc i)) (drop (place it i) p) i b (place it b) (o .before) (parts-length i b) ln old
         ∙ ap₂ (λ (x : List ℕ) (y : ℕ). x ++ drop y p) (sym (append-nil (gather (parts (suc i)) i)) ∙ ap (λ (x : Read). gather (parts (suc i)) i ++ words (closer names it (suc i) i) i x) (sym e)) (let w : place it i ≡ place it (suc i) = omega arith in w)

@@ -1,23 +1,22 @@
 -- The state once i rows are taken in, said of the items alone: each field is a count over, or a look back at, the first i items.
-use mathlib.Core.Path.{_≡_, refl, sym, ap, _∙_, subst}
+use mathlib.Core.Path.{_≡_, refl, ap, _∙_}
 use mathlib.Core.Bool.{Bool, true, false, not}
 use mathlib.Core.List.{List}
 use Prim.Native.Nat.{ℕ, zero, suc, _+_, _-_, _≤_, _<_}
 use native.Mathlib.Omega.{arith}
 use lib.ListN.{length}
-use lib.Dec.{ltb, eqb}
-use borrow.Author.Tests.{lt-ltb, le-ltb, ltb-true, ltb-false}
+use lib.Dec.{eqb}
 use Rattle.refusals.specs.declared.Verdict.the-variants.{Good}
 use Rattle.items.specs.declared.Item.the-variants.{Instruction, Label, Jump, LoopBegin, LoopEnd}
 use Rattle.encode.specs.Encoding.{parcelsOf}
 use Rattle.rows.specs.declared.Read.{Read}
 use Rattle.rows.specs.declared.Read.the-variants as read
 use Rattle.places.specs.declared.Rooms.{Rooms}
+use Rattle.places.specs.declared.OpenLoop.{OpenLoop}
 use Rattle.places.specs.Items.{pick, oneIf, Traits, about, isLabel, isJump, total, place, entries, nest}
-use Rattle.places.specs.Build.{lastAt, shortNo, shortAt, endNo, deepest}
-use Rattle.prefixes.proofs.Nesting.{nest-deepest}
+use Rattle.places.specs.Build.{lastAt, shortNo, shortAt, endNo}
 use Rattle.machine.specs.declared.State.{State}
-use Rattle.machine.specs.Machine.{Mem, memOf, st, check, next, deeper, Rooming, GoodFor, ReadFine}
+use Rattle.machine.specs.Machine.{Mem, memOf, st, check, next, Rooming, GoodFor, ReadFine}
 use Rattle.machine.specs.Fold.{memAt, zeroState}
 use Rattle.joins.proofs.Keeps.{SameLens, lens, keep, good-zero}
 
@@ -25,13 +24,12 @@ use Rattle.joins.proofs.Keeps.{SameLens, lens, keep, good-zero}
 -- what an item of these traits makes of a state
 abbrev turned : Traits → State → State
 turned t s =
-    st (s .at + t .size) (s .labels + t .label) (s .jumps + t .jump) (s .depth + t .opens - t .closes)
-    (pick (ltb (s .deepest) (s .depth + t .opens - t .closes)) (s .depth + t .opens - t .closes) (s .deepest)) (s .count + t .entry)
+    st (s .at + t .size) (s .labels + t .label) (s .jumps + t .jump) (s .depth + t .opens - t .closes) (s .count + t .entry)
     (pick (eqb (t .entry) 1) (s .at) (s .last)) (pick (eqb (t .short) 1) (s .count + 1) (s .short)) (pick (eqb (t .short) 1) (s .at) (s .shortat))
     (pick (eqb (t .closes) 1) (s .count) (s .ended))
 
-st-eq : {a a′ l l′ j j′ d d′ p p′ c c′ t s s′ b b′ e : ℕ} → a ≡ a′ → l ≡ l′ → j ≡ j′ → d ≡ d′ → p ≡ p′ → c ≡ c′ → s ≡ s′ → b ≡ b′ → st a l j d p c t s b e ≡ st a′ l′ j′ d′ p′ c′ t s′ b′ e
-st-eq {t} {e} x₁ x₂ x₃ x₄ x₅ x₆ x₇ x₈ = λ i. st (x₁ i) (x₂ i) (x₃ i) (x₄ i) (x₅ i) (x₆ i) t (x₇ i) (x₈ i) e
+st-eq : {a a′ l l′ j j′ d d′ c c′ t s s′ b b′ e : ℕ} → a ≡ a′ → l ≡ l′ → j ≡ j′ → d ≡ d′ → c ≡ c′ → s ≡ s′ → b ≡ b′ → st a l j d c t s b e ≡ st a′ l′ j′ d′ c′ t s′ b′ e
+st-eq {t} {e} x₁ x₂ x₃ x₄ x₅ x₆ x₇ = λ i. st (x₁ i) (x₂ i) (x₃ i) (x₄ i) (x₅ i) t (x₆ i) (x₇ i) e
 
 none : (n : ℕ) → n ≡ n + 0
 none n = omega arith
@@ -39,32 +37,20 @@ none n = omega arith
 level : (n : ℕ) → n ≡ n + 0 - 0
 level n = omega arith
 
-stays : (e x : ℕ) → x ≤ e → e ≡ pick (ltb e x) x e
-stays e x h = rw (le-ltb e x h)
-
-deeper-is : (d e x : ℕ) → x ≡ d + 1 → deeper d e ≡ pick (ltb e x) x e
-deeper-is d e x z = go (ltb d e) refl
-  where
-    go : (t : Bool) → ltb d e ≡ t → deeper d e ≡ pick (ltb e x) x e
-    go true q = let h = ltb-true d e q in rw (q, le-ltb e x (let w : x ≤ e = omega arith in w))
-    go false q = let h = ltb-false d e q in rw (q, lt-ltb e x (let w : e < x = omega arith in w)) (sym z)
-
 by-size : (t : Bool) (a b : ℕ) → pick t a b ≡ pick (eqb (oneIf (not t)) 1) b a
 by-size true a b = refl
 by-size false a b = refl
 
-next-is : (row : ℕ) (x : Read) (m : Mem) → m .s .depth ≤ m .s .deepest → next row x m .s ≡ turned (about x) (m .s)
-next-is row (read.Item (Instruction v)) m h =
-    let t = eqb (length (parcelsOf v)) 3 in
-    st-eq refl (none _) (none _) (level _) (stays _ _ (omega arith)) refl (by-size t _ _) (by-size t _ _)
-next-is row (read.Item (Label a b)) m h = st-eq (none _) refl (none _) (level _) (stays _ _ (omega arith)) (none _) refl refl
-next-is row (read.Item (Jump c a b)) m h = st-eq refl (none _) refl (level _) (stays _ _ (omega arith)) refl refl refl
-next-is row (read.Item (LoopBegin c k)) m h = st-eq refl (none _) (none _) (omega arith) (deeper-is (m .s .depth) (m .s .deepest) (m .s .depth + 1 - 0) (omega arith)) refl refl refl
-next-is row (read.Item LoopEnd) m h = st-eq (none _) (none _) (none _) (omega arith) (stays _ _ (omega arith)) (none _) refl refl
-next-is row (read.Refused why) m h = st-eq (none _) (none _) (none _) (level _) (stays _ _ (omega arith)) (none _) refl refl
+next-is : (row : ℕ) (x : Read) (m : Mem) → next row x m .s ≡ turned (about x) (m .s)
+next-is row (read.Item (Instruction v)) m = let t = eqb (length (parcelsOf v)) 3 in st-eq refl (none _) (none _) (level _) refl (by-size t _ _) (by-size t _ _)
+next-is row (read.Item (Label a b)) m = st-eq (none _) refl (none _) (level _) (none _) refl refl
+next-is row (read.Item (Jump c a b)) m = st-eq refl (none _) refl (level _) refl refl refl
+next-is row (read.Item (LoopBegin c k)) m = st-eq refl (none _) (none _) (omega arith) refl refl refl
+next-is row (read.Item LoopEnd) m = st-eq (none _) (none _) (none _) (omega arith) (none _) refl refl
+next-is row (read.Refused why) m = st-eq (none _) (none _) (none _) (level _) (none _) refl refl
 
 -- ---- i rows
-module _ (it : ℕ → Read) (p l j k : List ℕ) where
+module _ (it : ℕ → Read) (p l j : List ℕ) (k : List OpenLoop) where
   abbrev pub mem : ℕ → Mem
   mem i = memAt it (memOf zeroState p l j k) i
 
@@ -75,14 +61,11 @@ module _ (it : ℕ → Read) (p l j k : List ℕ) where
   module _ (names : List ℕ) where
     abbrev pub stateOf : ℕ → State
     stateOf i =
-        st (place it i) (total isLabel it i) (total isJump it i) (nest it i) (deepest names it i) (entries it i) (lastAt names it i) (shortNo names it i) (shortAt names it i)
-        (endNo names it i)
+        st (place it i) (total isLabel it i) (total isJump it i) (nest it i) (entries it i) (lastAt names it i) (shortNo names it i) (shortAt names it i) (endNo names it i)
 
     pub state-is : (i : ℕ) → mem i .s ≡ stateOf i
     state-is zero = refl
-    state-is (suc i) =
-        let deep : mem i .s .depth ≤ mem i .s .deepest = subst (λ (s : State). s .depth ≤ s .deepest) (sym (state-is i)) (nest-deepest it names i) in
-        next-is i (it i) (mem i) deep ∙ ap (turned (about (it i))) (state-is i)
+    state-is (suc i) = next-is i (it i) (mem i) ∙ ap (turned (about (it i))) (state-is i)
 
     -- what holds while the rows before i pass
     pub good-at : (r : Rooms) → Rooming r (length p) (length l) (length j) (length k) → ((q : ℕ) → ReadFine names (it q)) → (i : ℕ) → ((q : ℕ) → q < i → check names r (it q) (mem q) ≡ Good) → GoodFor names r (mem i)

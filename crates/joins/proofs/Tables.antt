@@ -10,6 +10,7 @@ use lib.Seq.{sets}
 use Rattle.items.specs.declared.Item.the-variants.{Instruction, Label, Jump, LoopBegin, LoopEnd}
 use Rattle.rows.specs.declared.Read.{Read}
 use Rattle.rows.specs.declared.Read.the-variants as read
+use Rattle.places.specs.declared.OpenLoop.{OpenLoop}
 use Rattle.places.specs.Items.{isLabel, isJump, total, place}
 use Rattle.places.specs.Build.{gather, left}
 use Rattle.machine.specs.declared.State.{State}
@@ -39,7 +40,7 @@ jump-row it (suc n) k h =
     later r = record { row = r .row; before = omega (arith, r .before); number = r .number; is = r .is }
 
 -- ---- the tables, when n rows are built
-module _ (names : List ℕ) (it : ℕ → Read) (n : ℕ) (p l j k : List ℕ) where
+module _ (names : List ℕ) (it : ℕ → Read) (n : ℕ) (p l j : List ℕ) (k : List OpenLoop) where
   abbrev M : ℕ → Mem
   M i = mem it p l j k i
 

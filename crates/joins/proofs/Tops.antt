@@ -1,10 +1,9 @@
 -- The innermost open loop: its record is that of its opener, whose count and mode read back, so its word is the contract's.
 use mathlib.Core.Path.{_≡_, refl, sym, ap, ap₂, _∙_, subst}
-use mathlib.Core.List.{List, _++_}
-use Prim.Native.Nat.{ℕ, suc, _+_, _-_, _*_, _%_, _<_}
+use mathlib.Core.List.{List}
+use Prim.Native.Nat.{ℕ, suc, _+_, _-_, _%_, _<_}
 use native.Mathlib.Omega.{arith}
 use native.Mathlib.Nat.{mod-eq-of-lt}
-use lib.ListN.{getD}
 use lib.IntN.{pos, _-ℤ_}
 use borrow.Author.Tests.{lt-ltb, le-ltb}
 use Rattle.items.specs.declared.LoopCount.{LoopCount}
@@ -15,16 +14,16 @@ use Rattle.encode.specs.Encoding.{loopForm}
 use Rattle.items.specs.declared.Item.the-variants.{LoopBegin}
 use Rattle.rows.specs.declared.Read.{Read}
 use Rattle.rows.specs.declared.Read.the-variants as read
-use Rattle.places.specs.Items.{place, entries, nest}
-use Rattle.places.specs.Build.{opener, deepest, lastAt, loopRow, gather}
+use Rattle.places.specs.declared.OpenLoop.{OpenLoop}
+use Rattle.places.specs.Items.{place, nest}
+use Rattle.places.specs.Build.{opener, lastAt, loopRow}
 use Rattle.prefixes.proofs.Traits.{opens-begin}
 use Rattle.prefixes.proofs.Nesting.{innermost}
 use Rattle.machine.specs.declared.State.{State}
-use Rattle.machine.specs.Machine.{countNumber, countFrom, modeNumber, modeFrom, topPlace, topFirst, topCount, topMode, topForm, CountFine, ReadFine}
-use Rattle.joins.proofs.Stores.{gather-at}
+use Rattle.machine.specs.Machine.{countNumber, countFrom, modeNumber, modeFrom, topOf, topForm, CountFine, ReadFine}
 use Rattle.joins.proofs.Prefix.{mem, stateOf}
 use Rattle.joins.proofs.Fits.{Fits}
-use Rattle.joins.proofs.Loops.{Rest, numbers, recordAt, startAt, open-records, records-length, loops-are}
+use Rattle.joins.proofs.Loops.{numbers, recordAt, startAt, records-are}
 
 -- ---- a count and a mode as numbers read back
 count-back : (c : LoopCount) → CountFine c → countFrom (countNumber c) ≡ c
@@ -51,41 +50,25 @@ opener-at names it i h =
     record { before = o .before; count = b .0; mode = b .1; begins = b .2 }
 
 module _ (names : List ℕ) (it : ℕ → Read) where
-  module _ (p l j k : List ℕ) (i : ℕ) (f : Fits names it p l j k i) (inside : 0 < nest it i) where
+  module _ (p l j : List ℕ) (k : List OpenLoop) (i : ℕ) (f : Fits names it p l j k i) (inside : 0 < nest it i) where
     abbrev S : State
     S = stateOf it p l j k names i
 
-    abbrev K : List ℕ
-    K = mem it p l j k i .K
+    abbrev T : OpenLoop
+    T = topOf S (mem it p l j k i .K)
 
-    -- number c of the top record
-    top-at : (c : ℕ) → c < 4 → getD K (4 * (nest it i - 1) + c) 0 ≡ getD (recordAt names it (opener names it i)) c 0
-    top-at c u =
-        let d = nest it i - 1 in
-        ap (λ (y : List ℕ). getD y (4 * d + c) 0) (loops-are names it p l j k i f)
-        ∙ ap (λ (y : ℕ). getD (gather (open-records names it i) (nest it i) ++ Rest k (nest it i) (deepest names it i)) (y + c) 0) (sym (records-length names it i d))
-        ∙ gather-at (open-records names it i) (Rest k (nest it i) (deepest names it i)) (nest it i) d c (omega arith) u
-        ∙ ap (λ (y : ℕ). getD (recordAt names it (startAt names it y i)) c 0) (let w : suc d ≡ nest it i = omega arith in w)
+    pub top-is : topOf S (mem it p l j k i .K) ≡ recordAt names it (opener names it i)
+    top-is =
+        records-are names it p l j k i f (nest it i - 1) (omega arith)
+        ∙ ap (λ (y : ℕ). recordAt names it (startAt names it y i)) (let w : suc (nest it i - 1) ≡ nest it i = omega arith in w)
 
-    pub top-place : topPlace S K ≡ place it (opener names it i)
-    top-place = ap (λ (y : ℕ). getD K y 0) (let w : 4 * nest it i - 4 ≡ 4 * (nest it i - 1) + 0 = omega arith in w) ∙ top-at 0 (omega arith)
-
-    pub top-first : topFirst S K ≡ entries it (opener names it i) + 1
-    top-first = ap (λ (y : ℕ). getD K y 0) (let w : 4 * nest it i - 3 ≡ 4 * (nest it i - 1) + 1 = omega arith in w) ∙ top-at 1 (omega arith)
-
-    top-count : topCount S K ≡ numbers (it (opener names it i)) .0
-    top-count = ap (λ (y : ℕ). getD K y 0) (let w : 4 * nest it i - 2 ≡ 4 * (nest it i - 1) + 2 = omega arith in w) ∙ top-at 2 (omega arith)
-
-    top-mode : topMode S K ≡ numbers (it (opener names it i)) .1
-    top-mode = ap (λ (y : ℕ). getD K y 0) (let w : 4 * nest it i - 1 ≡ 4 * (nest it i - 1) + 3 = omega arith in w) ∙ top-at 3 (omega arith)
-
-    pub top-form : ReadFine names (it (opener names it i)) → topForm S K ≡ loopRow names it i (opener names it i) (it (opener names it i))
+    pub top-form : ReadFine names (it (opener names it i)) → topForm S (topOf S (mem it p l j k i .K)) ≡ loopRow names it i (opener names it i) (it (opener names it i))
     unfolding topForm
     top-form fine =
         let b = opener-at names it i inside in
         let e = b .begins in
-        let n : countFrom (topCount S K) ≡ b .count = ap countFrom (top-count ∙ ap (λ (x : Read). numbers x .0) e) ∙ count-back (b .count) (subst (λ (x : Read). ReadFine names x) e fine) in
-        let m : modeFrom (topMode S K) ≡ b .mode = ap modeFrom (top-mode ∙ ap (λ (x : Read). numbers x .1) e) ∙ mode-back (b .mode) in
-        ap (λ (y : ℕ). loopForm (countFrom (topCount S K)) (modeFrom (topMode S K)) (pos (lastAt names it i) -ℤ pos y)) top-place
+        let n : countFrom (T .count) ≡ b .count = ap (λ (y : OpenLoop). countFrom (y .count)) top-is ∙ ap (λ (x : Read). countFrom (numbers x .0)) e ∙ count-back (b .count) (subst (λ (x : Read). ReadFine names x) e fine) in
+        let m : modeFrom (T .mode) ≡ b .mode = ap (λ (y : OpenLoop). modeFrom (y .mode)) top-is ∙ ap (λ (x : Read). modeFrom (numbers x .1)) e ∙ mode-back (b .mode) in
+        ap (λ (y : OpenLoop). loopForm (countFrom (T .count)) (modeFrom (T .mode)) (pos (lastAt names it i) -ℤ pos (y .place))) top-is
         ∙ ap₂ (λ (x : LoopCount) (y : LoopMode). loopForm x y (pos (lastAt names it i) -ℤ pos (place it (opener names it i)))) n m
         ∙ ap (loopRow names it i (opener names it i)) (sym e)

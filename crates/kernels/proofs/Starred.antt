@@ -27,7 +27,7 @@ rows (fs ∷ kernel) = row fs ++ rows kernel
 
 -- a build without names, in buffers of sevens
 abbrev pub build : List (List ℕ) → Out
-build kernel = buildOf (rows kernel) [] (replicate 12 7) [] [] (replicate 12 7)
+build kernel = buildOf (rows kernel) [] (replicate 12 7) [] [] (replicate 3 (record { place = 7; first = 7; count = 7; mode = 7 }))
 
 -- accepted, with these parcels at the front and the rest as lent; refused, with this refusal
 abbrev pub Gives : List (List ℕ) → List ℕ → Type 0

@@ -9,6 +9,7 @@ use Rattle.refusals.specs.declared.Verdict.the-variants as verdict
 use Rattle.refusals.specs.Numbers.{toldOf}
 use Rattle.places.specs.declared.Answer.{Answer}
 use Rattle.places.specs.declared.Answer.the-variants as answer
+use Rattle.places.specs.declared.OpenLoop.{OpenLoop}
 use Rattle.places.specs.Build.{Out}
 use Rattle.counts.specs.declared.Counted.{Counted}
 use Rattle.counts.specs.declared.Counted.the-variants as count
@@ -36,7 +37,7 @@ checkedAs verdict.Good = plain 0
 checkedAs (verdict.Refused r) = refusedAs r
 
 -- the numbers and the buffers' contents are what a build comes to
-pub record Built (o : Out) (r : Told) (p l j k : List ℕ) : Type 0 where
+pub record Built (o : Out) (r : Told) (p l j : List ℕ) (k : List OpenLoop) : Type 0 where
   pub answer : r ≡ answeredAs (o .answer)
   pub parcels : p ≡ o .P
   pub labels : l ≡ o .L

@@ -4,12 +4,16 @@ ghost use Prim.Native.Nat.{_≤_};
 ghost use Rattle.places.specs.Build.{buildOf};
 ghost use Rattle.counts.specs.Counts.{countOf};
 ghost use Rattle.slots.specs.Slots.{slotCheckOf};
+ghost use Rattle.parcel_bytes.specs.Bytes.{toBytes};
 ghost use Rattle.link.specs.One.{oneFor, oneOf};
 ghost use Rattle.link.specs.Told.{plain, refusedAs, answeredAs, countedAs, checkedAs, Built};
+ghost use Rattle.link.specs.Written.{writtenAs, Wrote};
 use counts::Counted;
 use counts::Counting;
 use encode::Encoded;
+use parcel_bytes::Written;
 use places::Answer;
+use places::OpenLoop;
 use refusals::Refusal;
 use refusals::Verdict;
 
@@ -130,7 +134,7 @@ fn checked(verdict: Verdict) -> Told
     }
 }
 
-// The build: its answer in numbers, and what it leaves in the lent buffers; a loop record is four numbers.
+// The build: its answer in numbers, and what it leaves in the lent buffers.
 #[no_mangle]
 pub extern "C" fn lhodrupesh_build(
     rows: &[u32],
@@ -138,11 +142,18 @@ pub extern "C" fn lhodrupesh_build(
     parcels: &mut [u16],
     labels: &mut [u32],
     jumps: &mut [u32],
-    loops: &mut [u32],
+    loops: &mut [OpenLoop],
 ) -> Told
     ensures { λ r. ⌜ Built (buildOf (now (rows .entry)) (now (names .entry)) (now (parcels .entry)) (now (labels .entry)) (now (jumps .entry)) (now (loops .entry))) r (now (parcels .exit)) (now (labels .exit)) (now (jumps .exit)) (now (loops .exit)) ⌝ }
 {
-    answered(build::build(rows, names, parcels, labels, jumps, loops))
+    answered(build::build(
+        rows,
+        names,
+        &mut *parcels,
+        &mut *labels,
+        &mut *jumps,
+        &mut *loops,
+    ))
 }
 
 // The parcel count of a list in numbers.
@@ -167,4 +178,44 @@ pub extern "C" fn lhodrupesh_slot_check(rows: &[u32], names: &[u8]) -> Told
     ensures { λ r. ⌜ r ≡ checkedAs (slotCheckOf (now (rows .entry)) (now (names .entry))) ⌝ }
 {
     checked(slots::slot_check(rows, names))
+}
+
+// What parcels to bytes answers in numbers: the bytes written and 0; or no bytes, a refusal's detail and number.
+#[repr(C)]
+pub struct ToldBytes {
+    pub bytes: u64,
+    pub first: i64,
+    pub number: u32,
+    pub spare: u32,
+}
+
+// How many bytes were written, or why none, in numbers.
+fn written(answer: Written) -> ToldBytes
+    ensures { λ r. ⌜ r ≡ writtenAs answer ⌝ }
+{
+    match answer {
+        Written::Bytes(bytes) => ToldBytes {
+            bytes,
+            first: 0,
+            number: 0,
+            spare: 0,
+        },
+        Written::Refused(refusal) => {
+            let told = refusal.told();
+            ToldBytes {
+                bytes: 0,
+                first: told.first,
+                number: told.number,
+                spare: 0,
+            }
+        }
+    }
+}
+
+// Parcels to bytes: its answer in numbers, and what it leaves in the lent bytes.
+#[no_mangle]
+pub extern "C" fn lhodrupesh_bytes(parcels: &[u16], bytes: &mut [u8]) -> ToldBytes
+    ensures { λ r. ⌜ Wrote (toBytes (now (parcels .entry)) (now (bytes .entry))) r (now (bytes .exit)) ⌝ }
+{
+    written(parcel_bytes::parcels_to_bytes(parcels, bytes))
 }

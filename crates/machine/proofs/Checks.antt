@@ -2,7 +2,7 @@
 use mathlib.Core.Path.{_≡_, refl}
 use mathlib.Core.Bool.{Bool, true, false, _&&_}
 use mathlib.Core.List.{List, [], _∷_}
-use Prim.Native.Nat.{ℕ, _+_, _-_, _*_, _≤_, _<_}
+use Prim.Native.Nat.{ℕ, _+_, _≤_, _<_}
 use native.Mathlib.Omega.{arith}
 use lib.ListN.{length}
 use lib.Dec.{ltb}
@@ -13,13 +13,15 @@ use Rattle.refusals.specs.declared.Verdict.the-variants.{Good, Refused}
 use Rattle.items.specs.Kinds.{isBranch}
 use Rattle.items.specs.declared.VisaInstruction.{VisaInstruction}
 use Rattle.encode.specs.Encoding.{parcelsOf, verdictOf, formVerdict}
+use Rattle.places.specs.declared.OpenLoop.{OpenLoop}
 use Rattle.places.specs.declared.Rooms.{Rooms}
 use Rattle.places.specs.Build.{when, orElse, first, ifGood}
 use Rattle.machine.specs.declared.State.{State}
-use Rattle.machine.specs.declared.Step.the-variants.{On, Stop}
+use Rattle.machine.specs.declared.Step.{Step}
+use Rattle.machine.specs.declared.Step.the-variants.{Stop}
 use Rattle.machine.specs.declared.Sought.{Sought}
 use Rattle.machine.specs.declared.Sought.the-variants.{At, Nowhere}
-use Rattle.machine.specs.Machine.{isThere, lookup, instructionChk, labelChk, jumpChk, beginChk, endChk, tailShort, topPlace, topFirst, topForm, stepOf, Starts}
+use Rattle.machine.specs.Machine.{isThere, lookup, instructionChk, labelChk, jumpChk, beginChk, endChk, tailShort, topForm, stepBy}
 
 pub never-good : {r : Refusal} → Refused r ≡ Good → ⊥
 never-good e = let z : _≡_ {A = ℕ} 0 1 = cc in omega arith
@@ -87,18 +89,18 @@ begin-good s r e =
     let y = unmet _ _ _ (x .1) in
     record { loops = ltb-false _ _ (x .0); parcels = ltb-false _ _ (y .0) }
 
-pub record EndGood (s : State) (ks : List ℕ) : Type 0 where
+pub record EndGood (s : State) (top : OpenLoop) : Type 0 where
   pub inside : 0 < s .depth
-  pub body : s .count ≡ topFirst s ks → ⊥
+  pub body : s .count ≡ top .first → ⊥
   pub alone : s .ended ≡ s .count → ⊥
-  pub tail : tailShort (topFirst s ks) (s .short) (s .count) ≡ false
-  pub reaches : formVerdict (topForm s ks) ≡ Good
+  pub tail : tailShort (top .first) (s .short) (s .count) ≡ false
+  pub reaches : formVerdict (topForm s top) ≡ Good
 
 some : (n : ℕ) → (n ≡ 0 → ⊥) → 0 < n
 some n h = omega arith
 
-pub end-good : (s : State) (ks : List ℕ) → endChk s ks ≡ Good → EndGood s ks
-end-good s ks e =
+pub end-good : (s : State) (top : OpenLoop) → endChk s top ≡ Good → EndGood s top
+end-good s top e =
     let a = unmet _ _ _ e in
     let b = unmet _ _ _ (a .1) in
     let c = unmet _ _ _ (b .1) in
@@ -106,19 +108,12 @@ end-good s ks e =
     let f = both-good _ _ (d .1) in
     record { inside = some _ (eqb-false _ _ (a .0)); body = eqb-false _ _ (b .0); alone = eqb-false _ _ (c .0); tail = d .0; reaches = f .0 }
 
--- the innermost open loop's start stands among the parcels
-pub top-start : (s : State) (ks : List ℕ) → Starts s ks → 0 < s .depth → (topPlace s ks + 3 ≤ s .at) × (topPlace s ks ≤ s .last)
-top-start s ks h p = rw (four-less (s .depth)) (h (s .depth - 1) (omega arith))
-  where
-    four-less : (d : ℕ) → 4 * d - 4 ≡ 4 * (d - 1)
-    four-less d = omega arith
-
 -- ---- what the step and a buffer come to, once the checks' verdict is known
-pub stopped : {v : Verdict} {r : Refusal} (s : State) → v ≡ Refused r → Stop r ≡ stepOf v s
-stopped s e = rw e
+pub stopped : {v : Verdict} {r : Refusal} (x : Step) → v ≡ Refused r → Stop r ≡ stepBy v x
+stopped x e = rw e
 
-pub went : {v : Verdict} (s : State) → v ≡ Good → On s ≡ stepOf v s
-went s e = rw e
+pub went : {v : Verdict} (x : Step) → v ≡ Good → x ≡ stepBy v x
+went x e = rw e
 
 pub kept : {v : Verdict} {r : Refusal} (new old : List ℕ) → v ≡ Refused r → old ≡ ifGood v new old
 kept new old e = rw e

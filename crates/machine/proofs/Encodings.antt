@@ -2,22 +2,26 @@
 use mathlib.Core.Path.{_≡_, refl, ap, _∙_}
 use mathlib.Core.Bool.{Bool, _&&_}
 use mathlib.Core.List.{List, [], _∷_}
-use Prim.Native.Nat.{ℕ, _+_, _≤_}
+use Prim.Native.Nat.{ℕ, _+_, _-_, _≤_}
 use native.Mathlib.Omega.{arith}
-use lib.ListN.{length, take}
+use lib.ListN.{length, take, replicate}
 use lib.Dec.{ltb}
+use lib.Seq.{take-append-seam}
 use Rattle.refusals.specs.declared.Refusal.the-variants.{BranchInLoop, NoRoomForParcels}
 use Rattle.refusals.specs.declared.Verdict.{Verdict}
 use Rattle.items.specs.Kinds.{isBranch}
 use Rattle.items.specs.declared.VisaInstruction.{VisaInstruction}
 use Rattle.encode.specs.declared.Encoded.{Encoded}
-use Rattle.encode.specs.Encoding.{parcelsOf, encodedOf}
+use Rattle.encode.specs.Encoding.{parcelsOf, padded, encodedOf}
 use Rattle.encode.proofs.Sizes.{parcels-few}
 use Rattle.places.specs.declared.Rooms.{Rooms}
 use Rattle.places.specs.Build.{when, first}
 use Rattle.machine.specs.Machine.{instructionChk}
 use Rattle.machine.specs.declared.State.{State}
-use Rattle.machine.proofs.Stores.{padded-front}
+
+-- the used ones of an instruction's six places
+padded-front : (ps : List ℕ) → take (length ps) (padded ps) ≡ ps
+padded-front ps = take-append-seam ps (replicate (6 - length ps) 0)
 
 module _ (v : VisaInstruction) {e : Encoded} (is : e ≡ encodedOf v) where
   pub count-is : e .count ≡ length (parcelsOf v)

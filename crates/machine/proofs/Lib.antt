@@ -1,4 +1,3 @@
-pub mod Stores
 pub mod Searches
 pub mod Checks
 pub mod Encodings

@@ -2,8 +2,8 @@
 use mathlib.Core.Path.{_≡_}
 use mathlib.Core.Bool.{Bool, true, false}
 use mathlib.Core.List.{List, _++_}
-use Prim.Native.Nat.{ℕ, _+_, _*_, _/_, _≤_, _<_}
-use lib.ListN.{length, getD, drop, replicate}
+use Prim.Native.Nat.{ℕ, zero, suc, _+_, _*_, _≤_, _<_}
+use lib.ListN.{length, getD, set, drop, replicate}
 use lib.Dec.{ltb}
 use lib.Seq.{sets}
 use lib.IntN.{ℤ, pos, _-ℤ_}
@@ -18,18 +18,16 @@ use Rattle.encode.specs.declared.Form.{Form}
 use Rattle.encode.specs.Encoding.{formVerdict, jumpForm}
 use Rattle.rows.specs.declared.Read.{Read}
 use Rattle.rows.specs.declared.Read.the-variants as read
+use Rattle.places.specs.declared.OpenLoop.{OpenLoop}
 use Rattle.places.specs.declared.Rooms.{Rooms}
 use Rattle.places.specs.declared.Answer.the-variants as answer
-use Rattle.places.specs.Items.{pick, rowAt, rowsIn}
-use Rattle.places.specs.Build.{Out, settled}
+use Rattle.places.specs.Build.{when, orElse, Out, settled, zeroLoop}
 use Rattle.machine.specs.declared.State.{State}
 use Rattle.machine.specs.declared.Sought.{Sought}
 use Rattle.machine.specs.declared.Sought.the-variants.{At, Nowhere}
-use Rattle.machine.specs.declared.Pass.{Pass}
-use Rattle.machine.specs.declared.Pass.the-variants.{Done, Stopped}
-use Rattle.machine.specs.Machine.{lookup, Entries, Mem, memOf}
+use Rattle.machine.specs.Machine.{st, lookup, Entries, Mem, memOf}
 use Rattle.machine.specs.Scan.{scanChk, scanAt, scanEnd}
-use Rattle.machine.specs.Fold.{memAt, passFrom, endFrom}
+use Rattle.machine.specs.Fold.{rowsVerdict, rowsMem}
 
 -- the word of a jump at place p to place q
 unfoldable pub aimForm : Condition → ℕ → ℕ → Form
@@ -78,6 +76,14 @@ waited ns it ls n js k ps = readAimed ns ls n (getD js (2 * k) 0) (it (getD js (
 abbrev pub zeroed : ℕ → List ℕ → List ℕ
 zeroed n l = replicate n 0 ++ drop n l
 
+-- the loop table once the d open loops are closed, the innermost first; and the state then
+abbrev pub shut : ℕ → List OpenLoop → List OpenLoop
+shut zero ks = ks
+shut (suc d) ks = shut d (set ks d zeroLoop)
+
+abbrev pub level : ℕ → State → State
+level d s = st (s .at) (s .labels) (s .jumps) d (s .count) (s .last) (s .short) (s .shortat) (s .ended)
+
 pub record AimFine (ns ls : List ℕ) (n p room : ℕ) : Type 0 where
   pub labels-in : 3 * n ≤ length ls
   pub entries : Entries ns ls n
@@ -94,27 +100,19 @@ pub record AimsFine (ns ls : List ℕ) (n : ℕ) (js : List ℕ) (rows count roo
   pub rows-few : rows ≤ 4194304
 
 -- what the rows took lies in the buffers
-pub record Used (s : State) (p l j k : ℕ) : Type 0 where
+pub record Used (s : State) (p l j : ℕ) : Type 0 where
   pub parcels-in : s .at ≤ p
   pub labels-in : 3 * s .labels ≤ l
   pub jumps-in : 2 * s .jumps ≤ j
-  pub loops-in : 4 * s .deepest ≤ k
   pub parcels-few : s .at ≤ 16777216
   pub labels-few : s .labels ≤ 4096
   pub jumps-few : s .jumps ≤ 4096
-  pub loops-few : s .deepest ≤ 64
 
 -- ---- the whole build: the answer, and what is left in each buffer
 -- refused: zeros in what the rows took
 abbrev pub wiped : Mem → Refusal → Out
 wiped m r =
-    record {
-      answer = answer.Refused r;
-      P = zeroed (m .s .at) (m .P);
-      L = zeroed (3 * m .s .labels) (m .L);
-      J = zeroed (2 * m .s .jumps) (m .J);
-      K = zeroed (4 * m .s .deepest) (m .K);
-    }
+    record { answer = answer.Refused r; P = zeroed (m .s .at) (m .P); L = zeroed (3 * m .s .labels) (m .L); J = zeroed (2 * m .s .jumps) (m .J); K = m .K }
 
 abbrev pub withP : Mem → List ℕ → Mem
 withP m ps = memOf (m .s) ps (m .L) (m .J) (m .K)
@@ -131,10 +129,18 @@ abbrev pub aimsOut : Verdict → Mem → Out
 aimsOut Good m = record { answer = answer.Accepted (m .s .at); P = m .P; L = m .L; J = m .J; K = m .K }
 aimsOut (Refused r) m = wiped m r
 
-abbrev pub finish : List ℕ → (ℕ → Read) → Pass → Mem → Out
-finish ns it (Stopped s r) m = wiped m r
-finish ns it (Done s) m = pick (ltb 0 (m .s .depth)) (wiped m UnclosedLoop) (aimsOut (aimsOf ns it m) (withP m (aimsP ns it m)))
+-- once the rows are taken in, with this verdict on them
+abbrev pub finish : List ℕ → (ℕ → Read) → Verdict → Mem → Out
+finish ns it (Refused r) m = wiped m r
+finish ns it Good m = aimsOut (aimsOf ns it m) (withP m (aimsP ns it m))
+
+-- the verdict on the rows, 23 after theirs; the memory with every loop closed
+abbrev pub closeVerdict : Verdict → Mem → Verdict
+closeVerdict v m = orElse v (when (ltb 0 (m .s .depth)) UnclosedLoop)
+
+abbrev pub closed : Mem → Mem
+closed m = memOf (level 0 (m .s)) (m .P) (m .L) (m .J) (shut (m .s .depth) (m .K))
 
 -- n rows in a memory
 abbrev pub outOf : List ℕ → Rooms → (ℕ → Read) → ℕ → Mem → Out
-outOf ns r it n m = finish ns it (passFrom ns r it m n 0) (memAt it m (endFrom ns r it m n 0))
+outOf ns r it n m = finish ns it (closeVerdict (rowsVerdict ns r it n m) (rowsMem ns r it n m)) (closed (rowsMem ns r it n m))

@@ -3,7 +3,7 @@ use mathlib.Core.Path.{_≡_}
 use mathlib.Core.Bool.{Bool, true, false, _&&_}
 use mathlib.Core.List.{List, [], _∷_, _++_}
 use Prim.Native.Nat.{ℕ, zero, suc, _+_, _-_, _*_, _≤_, _<_, _%_}
-use lib.ListN.{length, getD}
+use lib.ListN.{length, getD, set}
 use lib.Dec.{ltb, eqb}
 use lib.Seq.{sets}
 use lib.IntN.{ℤ, pos, _-ℤ_}
@@ -24,12 +24,13 @@ use Rattle.encode.specs.declared.Form.{Form}
 use Rattle.encode.specs.Encoding.{parcelsOf, verdictOf, formVerdict, loopForm}
 use Rattle.rows.specs.declared.Read.{Read}
 use Rattle.rows.specs.declared.Read.the-variants as read
+use Rattle.places.specs.declared.OpenLoop.{OpenLoop}
 use Rattle.places.specs.declared.Rooms.{Rooms}
 use Rattle.places.specs.Items.{pick, sameFrom}
-use Rattle.places.specs.Build.{when, first, ifGood, settled}
+use Rattle.places.specs.Build.{when, first, ifGood, settled, zeroLoop}
 use Rattle.machine.specs.declared.State.{State}
 use Rattle.machine.specs.declared.Step.{Step}
-use Rattle.machine.specs.declared.Step.the-variants.{On, Stop}
+use Rattle.machine.specs.declared.Step.the-variants.{On, Opened, Closed, Stop}
 use Rattle.machine.specs.declared.Sought.{Sought}
 use Rattle.machine.specs.declared.Sought.the-variants.{At, Nowhere}
 
@@ -67,22 +68,13 @@ modeNumber F1Active = 1
 abbrev pub modeFrom : ℕ → LoopMode
 modeFrom n = pick (eqb n 0) E2Active F1Active
 
--- the innermost open loop's record
-abbrev pub topPlace : State → List ℕ → ℕ
-topPlace s ks = getD ks (4 * s .depth - 4) 0
+-- the innermost open loop's record; with none open, whatever stands at the front
+abbrev pub topOf : State → List OpenLoop → OpenLoop
+topOf s ks = getD ks (s .depth - 1) zeroLoop
 
-abbrev pub topFirst : State → List ℕ → ℕ
-topFirst s ks = getD ks (4 * s .depth - 3) 0
-
-abbrev pub topCount : State → List ℕ → ℕ
-topCount s ks = getD ks (4 * s .depth - 2) 0
-
-abbrev pub topMode : State → List ℕ → ℕ
-topMode s ks = getD ks (4 * s .depth - 1) 0
-
--- the loop start's word, were the loop to end here
-unfoldable pub topForm : State → List ℕ → Form
-topForm s ks = loopForm (countFrom (topCount s ks)) (modeFrom (topMode s ks)) (pos (s .last) -ℤ pos (topPlace s ks))
+-- the loop start's word, were the loop of this record to end here
+unfoldable pub topForm : State → OpenLoop → Form
+topForm s top = loopForm (countFrom (top .count)) (modeFrom (top .mode)) (pos (s .last) -ℤ pos (top .place))
 
 -- ---- what each kind of row checks
 abbrev pub instructionChk : State → Rooms → VisaInstruction → Verdict
@@ -120,126 +112,169 @@ beginChk s r =
 abbrev pub tailShort : ℕ → ℕ → ℕ → Bool
 tailShort begin short count = ltb begin short && ltb count (short + 11)
 
-abbrev pub endChk : State → List ℕ → Verdict
-endChk s ks =
+abbrev pub endChk : State → OpenLoop → Verdict
+endChk s top =
     first
     (when (eqb (s .depth) 0) UnmatchedLoopEnd
-    ∷ when (eqb (s .count) (topFirst s ks)) EmptyLoop
+    ∷ when (eqb (s .count) (top .first)) EmptyLoop
     ∷ when (eqb (s .ended) (s .count)) SharedLoopEnd
-    ∷ when (tailShort (topFirst s ks) (s .short) (s .count)) (LoopTailNotFullWidth (s .shortat))
-    ∷ formVerdict (topForm s ks)
+    ∷ when (tailShort (top .first) (s .short) (s .count)) (LoopTailNotFullWidth (s .shortat))
+    ∷ formVerdict (topForm s top)
     ∷ [])
 
 -- ---- the states that follow
--- at, labels, jumps, depth, deepest, count, last, short, shortat, ended
-abbrev pub st : ℕ → ℕ → ℕ → ℕ → ℕ → ℕ → ℕ → ℕ → ℕ → ℕ → State
-st a l j d p c t s sa e = record { at = a; labels = l; jumps = j; depth = d; deepest = p; count = c; last = t; short = s; shortat = sa; ended = e }
+-- at, labels, jumps, depth, count, last, short, shortat, ended
+abbrev pub st : ℕ → ℕ → ℕ → ℕ → ℕ → ℕ → ℕ → ℕ → ℕ → State
+st a l j d c t s sa e = record { at = a; labels = l; jumps = j; depth = d; count = c; last = t; short = s; shortat = sa; ended = e }
 
 -- an instruction entry of n parcels
 abbrev pub advanced : ℕ → State → State
 advanced n s =
-    st (s .at + n) (s .labels) (s .jumps) (s .depth) (s .deepest) (s .count + 1) (s .at)
-    (pick (eqb n 3) (s .short) (s .count + 1)) (pick (eqb n 3) (s .shortat) (s .at)) (s .ended)
+    st (s .at + n) (s .labels) (s .jumps) (s .depth) (s .count + 1) (s .at) (pick (eqb n 3) (s .short) (s .count + 1)) (pick (eqb n 3) (s .shortat) (s .at)) (s .ended)
 
 abbrev pub labelNext : State → State
-labelNext s = st (s .at) (s .labels + 1) (s .jumps) (s .depth) (s .deepest) (s .count) (s .last) (s .short) (s .shortat) (s .ended)
+labelNext s = st (s .at) (s .labels + 1) (s .jumps) (s .depth) (s .count) (s .last) (s .short) (s .shortat) (s .ended)
 
 abbrev pub jumpNext : State → State
-jumpNext s = st (s .at + 3) (s .labels) (s .jumps + 1) (s .depth) (s .deepest) (s .count + 1) (s .at) (s .short) (s .shortat) (s .ended)
-
-abbrev pub deeper : ℕ → ℕ → ℕ
-deeper d deepest = pick (ltb d deepest) deepest (d + 1)
+jumpNext s = st (s .at + 3) (s .labels) (s .jumps + 1) (s .depth) (s .count + 1) (s .at) (s .short) (s .shortat) (s .ended)
 
 abbrev pub beginNext : State → State
-beginNext s = st (s .at + 3) (s .labels) (s .jumps) (s .depth + 1) (deeper (s .depth) (s .deepest)) (s .count + 1) (s .at) (s .short) (s .shortat) (s .ended)
+beginNext s = st (s .at + 3) (s .labels) (s .jumps) (s .depth + 1) (s .count + 1) (s .at) (s .short) (s .shortat) (s .ended)
+
+abbrev pub beginRecord : State → LoopCount → LoopMode → OpenLoop
+beginRecord s c m = record { place = s .at; first = s .count + 1; count = countNumber c; mode = modeNumber m }
 
 abbrev pub endNext : State → State
-endNext s = st (s .at) (s .labels) (s .jumps) (s .depth - 1) (s .deepest) (s .count) (s .last) (s .short) (s .shortat) (s .count)
+endNext s = st (s .at) (s .labels) (s .jumps) (s .depth - 1) (s .count) (s .last) (s .short) (s .shortat) (s .count)
 
 -- ---- the contracts of the methods: the step, and each buffer it may write
-abbrev pub stepOf : Verdict → State → Step
-stepOf Good s = On s
-stepOf (Refused r) s = Stop r
+abbrev pub stepBy : Verdict → Step → Step
+stepBy Good x = x
+stepBy (Refused r) x = Stop r
 
 abbrev pub zeros3 : List ℕ
 zeros3 = 0 ∷ 0 ∷ 0 ∷ []
 
 pub record Instructed (s : State) (r : Rooms) (v : VisaInstruction) (p : List ℕ) (x : Step) (p′ : List ℕ) : Type 0 where
-  pub answer : x ≡ stepOf (instructionChk s r v) (advanced (length (parcelsOf v)) s)
+  pub answer : x ≡ stepBy (instructionChk s r v) (On (advanced (length (parcelsOf v)) s))
   pub parcels : p′ ≡ ifGood (instructionChk s r v) (sets p (s .at) (parcelsOf v)) p
 
 pub record Labelled (ns : List ℕ) (s : State) (r : Rooms) (ls : List ℕ) (a b : ℕ) (x : Step) (ls′ : List ℕ) : Type 0 where
-  pub answer : x ≡ stepOf (labelChk ns s r ls a b) (labelNext s)
+  pub answer : x ≡ stepBy (labelChk ns s r ls a b) (On (labelNext s))
   pub labels : ls′ ≡ ifGood (labelChk ns s r ls a b) (sets ls (3 * s .labels) (a ∷ b ∷ s .at ∷ [])) ls
 
 pub record Jumped (s : State) (r : Rooms) (row : ℕ) (p js : List ℕ) (x : Step) (p′ js′ : List ℕ) : Type 0 where
-  pub answer : x ≡ stepOf (jumpChk s r) (jumpNext s)
+  pub answer : x ≡ stepBy (jumpChk s r) (On (jumpNext s))
   pub parcels : p′ ≡ ifGood (jumpChk s r) (sets p (s .at) zeros3) p
   pub jumps : js′ ≡ ifGood (jumpChk s r) (sets js (2 * s .jumps) (s .at ∷ row ∷ [])) js
 
-pub record Begun (s : State) (r : Rooms) (c : LoopCount) (m : LoopMode) (p ks : List ℕ) (x : Step) (p′ ks′ : List ℕ) : Type 0 where
-  pub answer : x ≡ stepOf (beginChk s r) (beginNext s)
+pub record Begun (s : State) (r : Rooms) (c : LoopCount) (m : LoopMode) (p : List ℕ) (x : Step) (p′ : List ℕ) : Type 0 where
+  pub answer : x ≡ stepBy (beginChk s r) (Opened (beginNext s) (beginRecord s c m))
   pub parcels : p′ ≡ ifGood (beginChk s r) (sets p (s .at) zeros3) p
-  pub loops : ks′ ≡ ifGood (beginChk s r) (sets ks (4 * s .depth) (s .at ∷ (s .count + 1) ∷ countNumber c ∷ modeNumber m ∷ [])) ks
 
-pub record Ended (s : State) (p ks : List ℕ) (x : Step) (p′ ks′ : List ℕ) : Type 0 where
-  pub answer : x ≡ stepOf (endChk s ks) (endNext s)
-  pub parcels : p′ ≡ ifGood (endChk s ks) (sets p (topPlace s ks) (settled (topForm s ks))) p
-  pub loops : ks′ ≡ ifGood (endChk s ks) (sets ks (4 * s .depth - 4) (0 ∷ 0 ∷ 0 ∷ 0 ∷ [])) ks
+pub record Ended (s : State) (top : OpenLoop) (p : List ℕ) (x : Step) (p′ : List ℕ) : Type 0 where
+  pub answer : x ≡ stepBy (endChk s top) (Closed (endNext s))
+  pub parcels : p′ ≡ ifGood (endChk s top) (sets p (top .place) (settled (topForm s top))) p
 
--- ---- the whole step
+-- ---- what a row checks, and what it makes of the state and each buffer, the innermost open loop having the record top
+abbrev pub checkItem : List ℕ → Rooms → Item → State → List ℕ → OpenLoop → Verdict
+checkItem ns r (Instruction v) s ls top = instructionChk s r v
+checkItem ns r (Label a b) s ls top = labelChk ns s r ls a b
+checkItem ns r (Jump c a b) s ls top = jumpChk s r
+checkItem ns r (LoopBegin c k) s ls top = beginChk s r
+checkItem ns r LoopEnd s ls top = endChk s top
+
+abbrev pub checkRow : List ℕ → Rooms → Read → State → List ℕ → OpenLoop → Verdict
+checkRow ns r (read.Item x) s ls top = checkItem ns r x s ls top
+checkRow ns r (read.Refused why) s ls top = Refused why
+
+abbrev pub stepItem : Item → State → Step
+stepItem (Instruction v) s = On (advanced (length (parcelsOf v)) s)
+stepItem (Label a b) s = On (labelNext s)
+stepItem (Jump c a b) s = On (jumpNext s)
+stepItem (LoopBegin c m) s = Opened (beginNext s) (beginRecord s c m)
+stepItem LoopEnd s = Closed (endNext s)
+
+abbrev pub stepRow : Read → State → Step
+stepRow (read.Item x) s = stepItem x s
+stepRow (read.Refused why) s = On s
+
+abbrev pub parcelsItem : Item → State → OpenLoop → List ℕ → List ℕ
+parcelsItem (Instruction v) s top p = sets p (s .at) (parcelsOf v)
+parcelsItem (Label a b) s top p = p
+parcelsItem (Jump c a b) s top p = sets p (s .at) zeros3
+parcelsItem (LoopBegin c m) s top p = sets p (s .at) zeros3
+parcelsItem LoopEnd s top p = sets p (top .place) (settled (topForm s top))
+
+abbrev pub parcelsRow : Read → State → OpenLoop → List ℕ → List ℕ
+parcelsRow (read.Item x) s top p = parcelsItem x s top p
+parcelsRow (read.Refused why) s top p = p
+
+abbrev pub labelsItem : Item → State → List ℕ → List ℕ
+labelsItem (Instruction v) s ls = ls
+labelsItem (Label a b) s ls = sets ls (3 * s .labels) (a ∷ b ∷ s .at ∷ [])
+labelsItem (Jump c a b) s ls = ls
+labelsItem (LoopBegin c m) s ls = ls
+labelsItem LoopEnd s ls = ls
+
+abbrev pub labelsRow : Read → State → List ℕ → List ℕ
+labelsRow (read.Item x) s ls = labelsItem x s ls
+labelsRow (read.Refused why) s ls = ls
+
+abbrev pub jumpsItem : ℕ → Item → State → List ℕ → List ℕ
+jumpsItem row (Instruction v) s js = js
+jumpsItem row (Label a b) s js = js
+jumpsItem row (Jump c a b) s js = sets js (2 * s .jumps) (s .at ∷ row ∷ [])
+jumpsItem row (LoopBegin c m) s js = js
+jumpsItem row LoopEnd s js = js
+
+abbrev pub jumpsRow : ℕ → Read → State → List ℕ → List ℕ
+jumpsRow row (read.Item x) s js = jumpsItem row x s js
+jumpsRow row (read.Refused why) s js = js
+
+-- the step's state
+abbrev pub stepState : Step → State → State
+stepState (On s′) s = s′
+stepState (Opened s′ start) s = s′
+stepState (Closed s′) s = s′
+stepState (Stop r) s = s
+
+-- the loop table: a record pushed, or popped and zeroed
+abbrev pub loopsBy : Step → State → List OpenLoop → List OpenLoop
+loopsBy (On s′) s ks = ks
+loopsBy (Opened s′ start) s ks = set ks (s .depth) start
+loopsBy (Closed s′) s ks = set ks (s .depth - 1) zeroLoop
+loopsBy (Stop r) s ks = ks
+
+pub record Stepped (ns : List ℕ) (r : Rooms) (rd : Read) (row : ℕ) (s : State) (p l j : List ℕ) (top : OpenLoop) (x : Step) (p′ l′ j′ : List ℕ) : Type 0 where
+  pub answer : x ≡ stepBy (checkRow ns r rd s l top) (stepRow rd s)
+  pub parcels : p′ ≡ ifGood (checkRow ns r rd s l top) (parcelsRow rd s top p) p
+  pub labels : l′ ≡ ifGood (checkRow ns r rd s l top) (labelsRow rd s l) l
+  pub jumps : j′ ≡ ifGood (checkRow ns r rd s l top) (jumpsRow row rd s j) j
+
+-- ---- the state and the buffers together
 pub record Mem : Type 0 where
   pub s : State
   pub P : List ℕ
   pub L : List ℕ
   pub J : List ℕ
-  pub K : List ℕ
+  pub K : List OpenLoop
 
-abbrev pub memOf : State → List ℕ → List ℕ → List ℕ → List ℕ → Mem
+abbrev pub memOf : State → List ℕ → List ℕ → List ℕ → List OpenLoop → Mem
 memOf s p l j k = record { s = s; P = p; L = l; J = j; K = k }
 
-abbrev pub checkItem : List ℕ → Rooms → Item → Mem → Verdict
-checkItem ns r (Instruction v) m = instructionChk (m .s) r v
-checkItem ns r (Label a b) m = labelChk ns (m .s) r (m .L) a b
-checkItem ns r (Jump c a b) m = jumpChk (m .s) r
-checkItem ns r (LoopBegin c k) m = beginChk (m .s) r
-checkItem ns r LoopEnd m = endChk (m .s) (m .K)
-
 abbrev pub check : List ℕ → Rooms → Read → Mem → Verdict
-check ns r (read.Item x) m = checkItem ns r x m
-check ns r (read.Refused why) m = Refused why
-
-abbrev pub nextItem : ℕ → Item → Mem → Mem
-nextItem row (Instruction v) m = record { s = advanced (length (parcelsOf v)) (m .s); P = sets (m .P) (m .s .at) (parcelsOf v); L = m .L; J = m .J; K = m .K }
-nextItem row (Label a b) m = record { s = labelNext (m .s); P = m .P; L = sets (m .L) (3 * m .s .labels) (a ∷ b ∷ m .s .at ∷ []); J = m .J; K = m .K }
-nextItem row (Jump c a b) m = record { s = jumpNext (m .s); P = sets (m .P) (m .s .at) zeros3; L = m .L; J = sets (m .J) (2 * m .s .jumps) (m .s .at ∷ row ∷ []); K = m .K }
-nextItem row (LoopBegin c k) m =
-    record {
-      s = beginNext (m .s);
-      P = sets (m .P) (m .s .at) zeros3;
-      L = m .L;
-      J = m .J;
-      K = sets (m .K) (4 * m .s .depth) (m .s .at ∷ (m .s .count + 1) ∷ countNumber c ∷ modeNumber k ∷ []);
-    }
-nextItem row LoopEnd m =
-    record {
-      s = endNext (m .s);
-      P = sets (m .P) (topPlace (m .s) (m .K)) (settled (topForm (m .s) (m .K)));
-      L = m .L;
-      J = m .J;
-      K = sets (m .K) (4 * m .s .depth - 4) (0 ∷ 0 ∷ 0 ∷ 0 ∷ []);
-    }
+check ns r rd m = checkRow ns r rd (m .s) (m .L) (topOf (m .s) (m .K))
 
 abbrev pub next : ℕ → Read → Mem → Mem
-next row (read.Item x) m = nextItem row x m
-next row (read.Refused why) m = m
-
-pub record Stepped (ns : List ℕ) (r : Rooms) (rd : Read) (row : ℕ) (m : Mem) (x : Step) (p l j k : List ℕ) : Type 0 where
-  pub answer : x ≡ stepOf (check ns r rd m) (next row rd m .s)
-  pub parcels : p ≡ ifGood (check ns r rd m) (next row rd m .P) (m .P)
-  pub labels : l ≡ ifGood (check ns r rd m) (next row rd m .L) (m .L)
-  pub jumps : j ≡ ifGood (check ns r rd m) (next row rd m .J) (m .J)
-  pub loops : k ≡ ifGood (check ns r rd m) (next row rd m .K) (m .K)
+next row rd m =
+    record {
+      s = stepState (stepRow rd (m .s)) (m .s);
+      P = parcelsRow rd (m .s) (topOf (m .s) (m .K)) (m .P);
+      L = labelsRow rd (m .s) (m .L);
+      J = jumpsRow row rd (m .s) (m .J);
+      K = loopsBy (stepRow rd (m .s)) (m .s) (m .K);
+    }
 
 -- ---- what stays true while rows are accepted
 -- the rooms lie within the buffers and the limits
@@ -250,24 +285,36 @@ pub record Rooming (r : Rooms) (p l j k : ℕ) : Type 0 where
   pub labels-few : r .labels ≤ 4096
   pub jumps-in : 2 * r .jumps ≤ j
   pub jumps-few : r .jumps ≤ 4096
-  pub loops-in : 4 * r .loops ≤ k
+  pub loops-in : r .loops ≤ k
   pub loops-few : r .loops ≤ 64
 
--- open loops' records: the parcels of a start are written
-abbrev pub Starts : State → List ℕ → Type 0
-Starts s ks = (d : ℕ) → d < s .depth → (getD ks (4 * d) 0 + 3 ≤ s .at) × (getD ks (4 * d) 0 ≤ s .last)
+-- an open loop's record: the parcels of its start are written
+abbrev pub StartFine : State → OpenLoop → Type 0
+StartFine s start = (start .place + 3 ≤ s .at) × (start .place ≤ s .last)
+
+abbrev pub Starts : State → List OpenLoop → Type 0
+Starts s ks = (d : ℕ) → d < s .depth → StartFine s (getD ks d zeroLoop)
+
+abbrev pub TopFine : State → OpenLoop → Type 0
+TopFine s top = 0 < s .depth → StartFine s top
 
 -- the places in use lie within the rooms
 pub record Within (s : State) (r : Rooms) : Type 0 where
   pub at-in : s .at ≤ r .parcels
   pub labels-in : s .labels ≤ r .labels
   pub jumps-in : s .jumps ≤ r .jumps
-  pub deepest-in : s .deepest ≤ r .loops
-  pub depth-in : s .depth ≤ s .deepest
+  pub depth-in : s .depth ≤ r .loops
   pub count-in : s .count ≤ s .at
   pub last-in : s .last ≤ s .at
   pub short-in : s .short ≤ s .count
   pub shortat-in : s .shortat ≤ s .at
+
+-- what a row leans on, but for the loop table
+pub record Fine (ns : List ℕ) (r : Rooms) (s : State) (p l j : List ℕ) (top : OpenLoop) : Type 0 where
+  pub rooming : Rooming r (length p) (length l) (length j) (r .loops)
+  pub within : Within s r
+  pub entries : Entries ns l (s .labels)
+  pub top-fine : TopFine s top
 
 pub record GoodFor (ns : List ℕ) (r : Rooms) (m : Mem) : Type 0 where
   pub rooming : Rooming r (length (m .P)) (length (m .L)) (length (m .J)) (length (m .K))

@@ -12,13 +12,14 @@ ghost use lib.Dec.{ltb};
 ghost use lib.Seq.{sets};
 ghost use Rattle.refusals.specs.declared.Refusal.the-variants.{BranchInLoop, NoRoomForParcels};
 ghost use Rattle.places.specs.Build.{when, first, settled};
-ghost use Rattle.machine.specs.Machine.{advanced, endNext, deeper, tailShort, topPlace, topForm, labelChk, jumpChk, beginChk, endChk, Instructed, Labelled, Jumped, Begun, Ended, Entries, Starts, Within, GoodFor, ItemFine, ReadFine, memOf, Stepped};
+ghost use Rattle.machine.specs.Machine.{advanced, endNext, tailShort, topForm, labelChk, jumpChk, beginChk, endChk, Instructed, Labelled, Jumped, Begun, Ended, Entries, TopFine, Within, Fine, ItemFine, ReadFine, Stepped};
 ghost use Rattle.machine.specs.Fold.{zeroState};
 use encode::Form;
 use items::Item;
 use items::LoopCount;
 use items::LoopMode;
 use items::VisaInstruction;
+use places::OpenLoop;
 use places::Rooms;
 use refusals::Refusal;
 use refusals::Verdict;
@@ -31,9 +32,8 @@ pub struct State {
     // The label entries and the waiting jumps.
     pub labels: usize,
     pub jumps: usize,
-    // The open loops, and the most that were open at once.
+    // The open loops.
     pub depth: usize,
-    pub deepest: usize,
     // The instruction entries, and the place of the last one.
     pub count: usize,
     pub last: usize,
@@ -44,9 +44,11 @@ pub struct State {
     pub ended: usize,
 }
 
-// What a row makes of a state: the next one, or why the row is refused.
+// What a row makes of a state: the next one, with a loop opened, of this record, or the innermost closed; or why the row is refused.
 pub enum Step {
     On(State),
+    Opened(State, OpenLoop),
+    Closed(State),
     Stop(Refusal),
 }
 
@@ -54,12 +56,6 @@ pub enum Step {
 pub enum Sought {
     At(u32),
     Nowhere,
-}
-
-// What the rows come to: the state after all of them, or the one before the refused row.
-pub enum Pass {
-    Done(State),
-    Stopped(State, Refusal),
 }
 
 // Whether the latest short instruction is one of the last 11 of a body.
@@ -73,17 +69,6 @@ pub fn tail_short(begin: usize, short: usize, count: usize) -> bool
     false
 }
 
-// The deepest nesting once one more loop is open over d.
-pub fn larger(d: usize, deepest: usize) -> usize
-    requires { ⌜ d ≤ 64 ⌝ }
-    ensures { λ r. ⌜ r ≡ deeper d deepest ⌝ }
-{
-    if d < deepest {
-        return deepest;
-    }
-    d + 1
-}
-
 impl State {
     // The state before the first row.
     pub fn start() -> State
@@ -94,7 +79,6 @@ impl State {
             labels: 0,
             jumps: 0,
             depth: 0,
-            deepest: 0,
             count: 0,
             last: 0,
             short: 0,
@@ -179,7 +163,7 @@ impl State {
             Verdict::Good => {}
         }
         let places = encoded.places;
-        tables::emit(parcels, self.at, places, n);
+        writer::emit(parcels, self.at, places, n);
         Step::On(self.advance(n))
     }
 
@@ -267,7 +251,7 @@ impl State {
         }
         let at = self.at;
         let n = self.jumps;
-        tables::mend(parcels, at, [0; 3]);
+        writer::emit(parcels, at, [0; 6], 3);
         tables::store(jumps, 2 * n, [at as u32, row, 0, 0], 2);
         let mut next = self.advance(3);
         next.jumps = n + 1;
@@ -286,18 +270,16 @@ impl State {
         self.room_check(rooms, 3)
     }
 
-    // A loop start: three zeros wait for its word, and the next loop record holds its place, its first body entry, its
-    // count and its mode.
+    // A loop start: three zeros wait for its word; its record holds its place, its first body entry, its count and its mode.
     pub fn loop_begin(
         self,
         rooms: Rooms,
         count: LoopCount,
         mode: LoopMode,
         parcels: &mut [u16],
-        loops: &mut [u32],
     ) -> Step
-        requires { ⌜ (Within self rooms) × (rooms .parcels ≤ length (now parcels)) × (rooms .parcels ≤ 16777216) × (rooms .loops ≤ 64) × (4 * rooms .loops ≤ length (now loops)) ⌝ }
-        ensures { λ r. ⌜ Begun self rooms count mode (now (parcels .entry)) (now (loops .entry)) r (now (parcels .exit)) (now (loops .exit)) ⌝ }
+        requires { ⌜ (Within self rooms) × (rooms .parcels ≤ length (now parcels)) × (rooms .parcels ≤ 16777216) × (rooms .loops ≤ 64) ⌝ }
+        ensures { λ r. ⌜ Begun self rooms count mode (now (parcels .entry)) r (now (parcels .exit)) ⌝ }
     {
         let k = self.begin_check(rooms);
         match k {
@@ -307,47 +289,38 @@ impl State {
             Verdict::Good => {}
         }
         let at = self.at;
-        let d = self.depth;
         let mut next = self.advance(3);
-        tables::mend(parcels, at, [0; 3]);
-        tables::store(
-            loops,
-            4 * d,
-            [
-                at as u32,
-                next.count as u32,
-                records::count_number(count),
-                records::mode_number(mode),
-            ],
-            4,
-        );
-        next.depth = d + 1;
-        next.deepest = larger(d, self.deepest);
-        Step::On(next)
+        writer::emit(parcels, at, [0; 6], 3);
+        let start = OpenLoop {
+            place: at as u32,
+            first: next.count as u32,
+            count: records::count_number(count),
+            mode: records::mode_number(mode),
+        };
+        next.depth = self.depth + 1;
+        Step::Opened(next, start)
     }
 
-    // The word of the innermost open loop's start, were the loop to end here.
-    pub fn top_form(self, loops: &[u32]) -> Form
-        requires { ⌜ (0 < self .depth) × (4 * self .depth ≤ length (now loops)) × (self .last ≤ 16777216) ⌝ }
-        ensures { λ r. ⌜ r ≡ topForm self (now (loops .entry)) ⌝ }
+    // The word of the start of the loop of this record, were it to end here.
+    pub fn top_form(self, top: OpenLoop) -> Form
+        requires { ⌜ self .last ≤ 16777216 ⌝ }
+        ensures { λ r. ⌜ r ≡ topForm self top ⌝ }
     {
-        let d = self.depth;
-        let place = tables::wide(loops[4 * d - 4]);
-        let count = records::count_from(loops[4 * d - 2]);
-        let mode = records::mode_from(loops[4 * d - 1]);
+        let place = tables::wide(top.place);
+        let count = records::count_from(top.count);
+        let mode = records::mode_from(top.mode);
         encode::loop_form(count, mode, signs::apart(self.last, place))
     }
 
-    // What a loop end is refused for.
-    pub fn end_check(self, loops: &[u32]) -> Verdict
-        requires { ⌜ (4 * self .depth ≤ length (now loops)) × (self .last ≤ 16777216) × (self .short ≤ 16777216) × (self .shortat ≤ 16777216) ⌝ }
-        ensures { λ r. ⌜ r ≡ endChk self (now (loops .entry)) ⌝ }
+    // What a loop end is refused for, the innermost open loop having this record.
+    pub fn end_check(self, top: OpenLoop) -> Verdict
+        requires { ⌜ (self .last ≤ 16777216) × (self .short ≤ 16777216) × (self .shortat ≤ 16777216) ⌝ }
+        ensures { λ r. ⌜ r ≡ endChk self top ⌝ }
     {
-        let d = self.depth;
-        if d == 0 {
+        if self.depth == 0 {
             return Verdict::Refused(Refusal::UnmatchedLoopEnd);
         }
-        let begin = tables::wide(loops[4 * d - 3]);
+        let begin = tables::wide(top.first);
         let count = self.count;
         if count == begin {
             return Verdict::Refused(Refusal::EmptyLoop);
@@ -358,36 +331,35 @@ impl State {
         if tail_short(begin, self.short, count) {
             return Verdict::Refused(Refusal::LoopTailNotFullWidth(self.shortat as u32));
         }
-        records::form_verdict(self.top_form(loops))
+        records::form_verdict(self.top_form(top))
     }
 
-    // The innermost open loop ends here: its start's word stands at its place, and its record is zero.
-    pub fn close(mut self, parcels: &mut [u16], loops: &mut [u32]) -> State
-        requires { ⌜ (0 < self .depth) × (4 * self .depth ≤ length (now loops)) × (topPlace self (now loops) + 3 ≤ length (now parcels)) × (self .last ≤ 16777216) ⌝ }
-        ensures { λ r. ⌜ (r ≡ endNext self) × (now (parcels .exit) ≡ sets (now (parcels .entry)) (topPlace self (now (loops .entry))) (settled (topForm self (now (loops .entry))))) × (now (loops .exit) ≡ sets (now (loops .entry)) (4 * self .depth - 4) (0 ∷ 0 ∷ 0 ∷ 0 ∷ [])) ⌝ }
+    // The loop of this record ends here: its start's word stands at its place.
+    pub fn close(mut self, top: OpenLoop, parcels: &mut [u16]) -> State
+        requires { ⌜ (0 < self .depth) × (top .place + 3 ≤ length (now parcels)) × (self .last ≤ 16777216) ⌝ }
+        ensures { λ r. ⌜ (r ≡ endNext self) × (now (parcels .exit) ≡ sets (now (parcels .entry)) (top .place) (settled (topForm self top))) ⌝ }
     {
-        let d = self.depth;
-        let place = tables::wide(loops[4 * d - 4]);
-        tables::mend(parcels, place, records::settled(self.top_form(loops)));
-        tables::store(loops, 4 * d - 4, [0; 4], 4);
-        self.depth = d - 1;
+        let place = tables::wide(top.place);
+        let words = records::settled(self.top_form(top));
+        writer::mend(parcels, self.at, place, words);
+        self.depth = self.depth - 1;
         self.ended = self.count;
         self
     }
 
-    // A loop end: the innermost open loop ends here.
-    pub fn loop_end(self, parcels: &mut [u16], loops: &mut [u32]) -> Step
-        requires { ⌜ (self .at ≤ length (now parcels)) × (4 * self .depth ≤ length (now loops)) × (self .last ≤ 16777216) × (self .short ≤ 16777216) × (self .shortat ≤ 16777216) × Starts self (now loops) ⌝ }
-        ensures { λ r. ⌜ Ended self (now (parcels .entry)) (now (loops .entry)) r (now (parcels .exit)) (now (loops .exit)) ⌝ }
+    // A loop end: the innermost open loop, of this record, ends here.
+    pub fn loop_end(self, top: OpenLoop, parcels: &mut [u16]) -> Step
+        requires { ⌜ (self .at ≤ length (now parcels)) × (self .last ≤ 16777216) × (self .short ≤ 16777216) × (self .shortat ≤ 16777216) × TopFine self top ⌝ }
+        ensures { λ r. ⌜ Ended self top (now (parcels .entry)) r (now (parcels .exit)) ⌝ }
     {
-        let k = self.end_check(loops);
+        let k = self.end_check(top);
         match k {
             Verdict::Refused(r) => Step::Stop(r),
-            Verdict::Good => Step::On(self.close(parcels, loops)),
+            Verdict::Good => Step::Closed(self.close(top, parcels)),
         }
     }
 
-    // An item of a row: what its method makes of the state and the buffers.
+    // An item of a row: what its method makes of the state and the buffers, the innermost open loop having this record.
     pub fn item(
         self,
         rooms: Rooms,
@@ -397,10 +369,10 @@ impl State {
         parcels: &mut [u16],
         labels: &mut [u32],
         jumps: &mut [u32],
-        loops: &mut [u32],
+        top: OpenLoop,
     ) -> Step
-        requires { ⌜ (GoodFor (now names) rooms (memOf self (now parcels) (now labels) (now jumps) (now loops))) × ItemFine (now names) it ⌝ }
-        ensures { λ r. ⌜ Stepped (now (names .entry)) rooms (Read.Item it) row (memOf self (now (parcels .entry)) (now (labels .entry)) (now (jumps .entry)) (now (loops .entry))) r (now (parcels .exit)) (now (labels .exit)) (now (jumps .exit)) (now (loops .exit)) ⌝ }
+        requires { ⌜ (Fine (now names) rooms self (now parcels) (now labels) (now jumps) top) × ItemFine (now names) it ⌝ }
+        ensures { λ r. ⌜ Stepped (now (names .entry)) rooms (Read.Item it) row self (now (parcels .entry)) (now (labels .entry)) (now (jumps .entry)) top r (now (parcels .exit)) (now (labels .exit)) (now (jumps .exit)) ⌝ }
     {
         match it {
             Item::Instruction(v) => self.instruction(rooms, v, parcels),
@@ -410,8 +382,8 @@ impl State {
                 start: _,
                 length: _,
             } => self.jump(rooms, row, parcels, jumps),
-            Item::LoopBegin { count, mode } => self.loop_begin(rooms, count, mode, parcels, loops),
-            Item::LoopEnd => self.loop_end(parcels, loops),
+            Item::LoopBegin { count, mode } => self.loop_begin(rooms, count, mode, parcels),
+            Item::LoopEnd => self.loop_end(top, parcels),
         }
     }
 
@@ -425,13 +397,13 @@ impl State {
         parcels: &mut [u16],
         labels: &mut [u32],
         jumps: &mut [u32],
-        loops: &mut [u32],
+        top: OpenLoop,
     ) -> Step
-        requires { ⌜ (GoodFor (now names) rooms (memOf self (now parcels) (now labels) (now jumps) (now loops))) × ReadFine (now names) read ⌝ }
-        ensures { λ r. ⌜ Stepped (now (names .entry)) rooms read row (memOf self (now (parcels .entry)) (now (labels .entry)) (now (jumps .entry)) (now (loops .entry))) r (now (parcels .exit)) (now (labels .exit)) (now (jumps .exit)) (now (loops .exit)) ⌝ }
+        requires { ⌜ (Fine (now names) rooms self (now parcels) (now labels) (now jumps) top) × ReadFine (now names) read ⌝ }
+        ensures { λ r. ⌜ Stepped (now (names .entry)) rooms read row self (now (parcels .entry)) (now (labels .entry)) (now (jumps .entry)) top r (now (parcels .exit)) (now (labels .exit)) (now (jumps .exit)) ⌝ }
     {
         match read {
-            Read::Item(it) => self.item(rooms, it, row, names, parcels, labels, jumps, loops),
+            Read::Item(it) => self.item(rooms, it, row, names, parcels, labels, jumps, top),
             Read::Refused(r) => Step::Stop(r),
         }
     }

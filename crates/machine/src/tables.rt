@@ -12,28 +12,6 @@ pub fn wide(x: u32) -> usize
     x as usize
 }
 
-// The first n of six words stand in the parcels from `at` on.
-pub fn emit(parcels: &mut [u16], at: usize, words: [u16; 6], n: usize)
-    requires { ⌜ (n ≤ 6) × (at + n ≤ length (now parcels)) ⌝ }
-    ensures { λ _. ⌜ now (parcels .exit) ≡ sets (now (parcels .entry)) at (take n words) ⌝ }
-{
-    let mut k = 0;
-    while k < n {
-        parcels[at + k] = words[k];
-        k += 1;
-    }
-}
-
-// Three words stand in the parcels at a place.
-pub fn mend(parcels: &mut [u16], place: usize, words: [u16; 3])
-    requires { ⌜ place + 3 ≤ length (now parcels) ⌝ }
-    ensures { λ _. ⌜ now (parcels .exit) ≡ sets (now (parcels .entry)) place words ⌝ }
-{
-    parcels[place] = words[0];
-    parcels[place + 1] = words[1];
-    parcels[place + 2] = words[2];
-}
-
 // The first n of four numbers stand in a table from `at` on.
 pub fn store(table: &mut [u32], at: usize, values: [u32; 4], n: usize)
     requires { ⌜ (n ≤ 4) × (at + n ≤ length (now table)) ⌝ }

@@ -2,7 +2,7 @@
 use mathlib.Core.Path.{_≡_}
 use mathlib.Core.Bool.{Bool, true, false, _&&_}
 use mathlib.Core.List.{List, [], _∷_, _++_}
-use Prim.Native.Nat.{ℕ, zero, suc, _+_, _-_, _*_, _/_}
+use Prim.Native.Nat.{ℕ, zero, suc, _+_, _-_}
 use lib.ListN.{length, take, drop, replicate}
 use lib.Dec.{ltb, leb, eqb}
 use lib.IntN.{ℤ, pos, _-ℤ_}
@@ -27,6 +27,7 @@ use Rattle.rows.specs.Rows.{wellFormed}
 use Rattle.places.specs.declared.Answer.{Answer}
 use Rattle.places.specs.declared.Answer.the-variants as answer
 use Rattle.places.specs.declared.Rooms.{Rooms}
+use Rattle.places.specs.declared.OpenLoop.{OpenLoop}
 use Rattle.places.specs.Items.{pick, rowAt, rowsIn, about, isLabel, isJump, total, place, entries, nest, sameFrom, roomsOf}
 
 -- ---- the first refusal that is met
@@ -239,16 +240,20 @@ abbrev pub answerOf : Verdict → ℕ → Answer
 answerOf Good n = answer.Accepted n
 answerOf (Refused r) n = answer.Refused r
 
+-- a loop record at rest
+abbrev pub zeroLoop : OpenLoop
+zeroLoop = record { place = 0; first = 0; count = 0; mode = 0 }
+
 -- ---- what a build comes to: the answer, and the parcels, label entries, jump entries and loop records
 pub record Out : Type 0 where
   pub answer : Answer
   pub P : List ℕ
   pub L : List ℕ
   pub J : List ℕ
-  pub K : List ℕ
+  pub K : List OpenLoop
 
 -- the build of n items in the buffers p, l, j, k
-module _ (names : List ℕ) (it : ℕ → Read) (n : ℕ) (p l j k : List ℕ) where
+module _ (names : List ℕ) (it : ℕ → Read) (n : ℕ) (p l j : List ℕ) (k : List OpenLoop) where
   abbrev pub verdictAt : ℕ → Verdict
   verdictAt i = first (faults names it (roomsOf (length p) (length l) (length j) (length k)) i (it i))
 
@@ -267,18 +272,18 @@ module _ (names : List ℕ) (it : ℕ → Read) (n : ℕ) (p l j k : List ℕ) w
         P = put verdict (gather (λ i. left names it n i (it i) .parcels) taken) p;
         L = put verdict (gather (λ i. left names it n i (it i) .labels) taken) l;
         J = put verdict (gather (λ i. left names it n i (it i) .jumps) taken) j;
-        K = put verdict (replicate (4 * deepest names it taken) 0) k;
+        K = replicate (deepest names it taken) zeroLoop ++ drop (deepest names it taken) k;
       }
 
 -- refusal 1 changes nothing; else the rows are built
-abbrev pub buildOf : List ℕ → List ℕ → List ℕ → List ℕ → List ℕ → List ℕ → Out
+abbrev pub buildOf : List ℕ → List ℕ → List ℕ → List ℕ → List ℕ → List OpenLoop → Out
 buildOf rows names p l j k =
     pick (wellFormed (length rows))
     (built names (rowAt rows names) (rowsIn rows) p l j k)
     (record { answer = answer.Refused RowSlice; P = p; L = l; J = j; K = k })
 
 -- an answer and the buffers' contents are what a build comes to
-pub record Left (o : Out) (r : Answer) (p l j k : List ℕ) : Type 0 where
+pub record Left (o : Out) (r : Answer) (p l j : List ℕ) (k : List OpenLoop) : Type 0 where
   pub answer : r ≡ o .answer
   pub parcels : p ≡ o .P
   pub labels : l ≡ o .L

@@ -95,6 +95,6 @@ sameFrom names (suc n) a b = eqb (getD names a 0) (getD names b 0) && sameFrom n
 abbrev pub least : ℕ → ℕ → ℕ
 least a b = pick (ltb a b) a b
 
--- of the lent lengths: three numbers a label, two a jump, four a loop record; and the limits
+-- of the lent lengths: three numbers a label, two a jump; and the limits
 abbrev pub roomsOf : ℕ → ℕ → ℕ → ℕ → Rooms
-roomsOf p l j k = record { parcels = least p 16777216; labels = least (l / 3) 4096; jumps = least (j / 2) 4096; loops = least (k / 4) 64 }
+roomsOf p l j k = record { parcels = least p 16777216; labels = least (l / 3) 4096; jumps = least (j / 2) 4096; loops = least k 64 }

@@ -5,13 +5,13 @@ use lib.ListN.{take, replicate}
 use Rattle.refusals.specs.Numbers.{toldOf}
 use Rattle.places.specs.declared.Answer.{Answer}
 use Rattle.places.specs.declared.Answer.the-variants.{Accepted, Refused}
-use Rattle.places.specs.Build.{Out, buildOf}
+use Rattle.places.specs.Build.{Out, zeroLoop, buildOf}
 use Rattle.reader.specs.Lines.{Said, rows, unread, said}
 use Rattle.text.specs.Text.{okText, refusedText, unreadText}
 
--- "Its rooms are 3,072 parcels, 512 labels, 512 jumps and 64 loops": three numbers a label, two a jump, four a loop record
+-- "Its rooms are 3,072 parcels, 512 labels, 512 jumps and 64 loops": three numbers a label, two a jump
 abbrev pub builtOf : List ℕ → List ℕ → Out
-builtOf rs names = buildOf rs names (replicate 3072 0) (replicate 1536 0) (replicate 1024 0) (replicate 256 0)
+builtOf rs names = buildOf rs names (replicate 3072 0) (replicate 1536 0) (replicate 1024 0) (replicate 64 zeroLoop)
 
 -- an answer, with what stands in the parcels' room
 abbrev pub answerText : Answer → List ℕ → List ℕ

@@ -46,15 +46,7 @@ pub fn list(rows: &[u32], names: &[u8], out: &mut [u8]) -> usize
     let mut parcels = [0u16; 3072];
     let mut labels = [0u32; 1536];
     let mut jumps = [0u32; 1024];
-    let mut loops = [0u32; 256];
-    let answer = build::build(
-        rows,
-        names,
-        &mut parcels,
-        &mut labels,
-        &mut jumps,
-        &mut loops,
-    );
+    let answer = build::build_alone(rows, names, &mut parcels, &mut labels, &mut jumps);
     answered(answer, &parcels, out)
 }
 

@@ -347,6 +347,19 @@ fn memory_item(access: MemoryAccess, beside: Beside) -> Read
     }
 }
 
+// The item of an instruction of a kind that holds no compute, with its fields.
+fn instruction_item(kind: u32, a: u32, b: u32, c: u32) -> Read
+    ensures { λ r. ⌜ r ≡ Read.Item (Item.Instruction (instructionOf kind a b c)) ⌝ }
+{
+    if kind <= 12 {
+        return Read::Item(Item::Instruction(VisaInstruction::Scalar(scalar_of(kind, a, b, c))));
+    }
+    if kind <= 24 {
+        return Read::Item(Item::Instruction(transfer_of(kind, a, b, c)));
+    }
+    Read::Item(Item::Instruction(other_of(kind, a, b, c)))
+}
+
 // The item of a row whose places hold numbers of its fields, or the refusal of its compute.
 fn item_of(row: &[u32]) -> Read
     requires { ⌜ length (now row) ≡ 17 ⌝ }
@@ -385,7 +398,7 @@ fn item_of(row: &[u32]) -> Read
             Read::Item(Item::LoopBegin { count, mode })
         }
         51 => Read::Item(Item::LoopEnd),
-        _ => Read::Item(Item::Instruction(instruction_of(kind, a, b, c))),
+        _ => instruction_item(kind, a, b, c),
     }
 }
 

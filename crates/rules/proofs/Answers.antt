@@ -14,6 +14,7 @@ use Rattle.places.specs.Build.{answerOf, Out, verdict, built, buildOf, Left}
 use Rattle.places.specs.Items.{place, roomsOf, rowAt, pick, rowsIn}
 use Rattle.places.specs.declared.Answer.{Answer}
 use Rattle.places.specs.declared.Answer.the-variants.{Accepted, Refused}
+use Rattle.places.specs.declared.OpenLoop.{OpenLoop}
 use Rattle.prefixes.proofs.Names.{rows-named}
 use Rattle.prefixes.proofs.Verdicts.{answer-good}
 use Rattle.rules.specs.Rules.{Valid}
@@ -21,16 +22,16 @@ use Rattle.rules.proofs.Exactly.{accepted-exactly-when-valid}
 use Rattle.rules.proofs.Parcels.{AcceptedParcels, accepted-parcels}
 
 -- no second answer, and no other contents, fit what a build comes to
-pub no-second-answer : (o : Out) (r r′ : Answer) (p p′ l l′ j j′ k k′ : List ℕ) → Left o r p l j k → Left o r′ p′ l′ j′ k′ → (r ≡ r′) × (p ≡ p′) × (l ≡ l′) × (j ≡ j′) × (k ≡ k′)
+pub no-second-answer : (o : Out) (r r′ : Answer) (p p′ l l′ j j′ : List ℕ) (k k′ : List OpenLoop) → Left o r p l j k → Left o r′ p′ l′ j′ k′ → (r ≡ r′) × (p ≡ p′) × (l ≡ l′) × (j ≡ j′) × (k ≡ k′)
 no-second-answer o r r′ p p′ l l′ j j′ k k′ x y =
     (x .answer ∙ sym (y .answer), x .parcels ∙ sym (y .parcels), x .labels ∙ sym (y .labels), x .jumps ∙ sym (y .jumps), x .loops ∙ sym (y .loops))
 
 -- the rules of a valid kernel, for rows, names and lent buffers
-abbrev pub ValidRows : List ℕ → List ℕ → List ℕ → List ℕ → List ℕ → List ℕ → Type 0
+abbrev pub ValidRows : List ℕ → List ℕ → List ℕ → List ℕ → List ℕ → List OpenLoop → Type 0
 ValidRows rows names p l j k = Valid names (rowAt rows names) (rowsIn rows) (roomsOf (length p) (length l) (length j) (length k))
 
 -- a build of the rows in p, l, j, k answers r and leaves p′, l′, j′, k′
-module _ (rows names p l j k : List ℕ) (r : Answer) (p′ l′ j′ k′ : List ℕ) (contract : Left (buildOf rows names p l j k) r p′ l′ j′ k′) where
+module _ (rows names p l j : List ℕ) (k : List OpenLoop) (r : Answer) (p′ l′ j′ : List ℕ) (k′ : List OpenLoop) (contract : Left (buildOf rows names p l j k) r p′ l′ j′ k′) where
   -- a well-formed list is built
   well-formed-built : wellFormed (length rows) ≡ true → Left (built names (rowAt rows names) (rowsIn rows) p l j k) r p′ l′ j′ k′
   well-formed-built w =

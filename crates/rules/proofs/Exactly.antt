@@ -13,6 +13,7 @@ use Rattle.rows.specs.declared.Read.the-variants.{Item, Refused}
 use Rattle.places.specs.Build.{faults, reaches, verdictAt, verdict}
 use Rattle.places.specs.Items.{about, nest, size, isLabel, isJump, roomsOf}
 use Rattle.places.specs.declared.Rooms.{Rooms}
+use Rattle.places.specs.declared.OpenLoop.{OpenLoop}
 use Rattle.prefixes.proofs.Names.{Named}
 use Rattle.prefixes.proofs.Nesting.{nest-opens}
 use Rattle.prefixes.proofs.Tests.{not-so}
@@ -78,7 +79,7 @@ module _ (names : List ℕ) (it : ℕ → Read) (n : ℕ) (r : Rooms) (named : N
     jumps-reach i h = reaches-as i h (it i) refl
 
 -- the parts of a verdict
-pub verdict-good : (names : List ℕ) (it : ℕ → Read) (n : ℕ) (p l j k : List ℕ) → verdict names it n p l j k ≡ Good
+pub verdict-good : (names : List ℕ) (it : ℕ → Read) (n : ℕ) (p l j : List ℕ) (k : List OpenLoop) → verdict names it n p l j k ≡ Good
     ↔ (RowsPass names it n (roomsOf (length p) (length l) (length j) (length k)) × (nest it n ≡ 0) × JumpsReach names it n)
 verdict-good names it n p l j k = (
   (λ g.
@@ -93,7 +94,7 @@ verdict-good names it n p l j k = (
       (good-orElse _ _ (good-when _ _ (le-ltb 0 (nest it n) (let w = x .1 in omega arith))) (all-first (λ i. reaches names it n i (it i)) n (x .2)))),
 )
 
-pub accepted-exactly-when-valid : (names : List ℕ) (it : ℕ → Read) (n : ℕ) (p l j k : List ℕ) → Named names it
+pub accepted-exactly-when-valid : (names : List ℕ) (it : ℕ → Read) (n : ℕ) (p l j : List ℕ) (k : List OpenLoop) → Named names it
     → verdict names it n p l j k ≡ Good ↔ Valid names it n (roomsOf (length p) (length l) (length j) (length k))
 accepted-exactly-when-valid names it n p l j k named =
     let v = verdict-good names it n p l j k in (

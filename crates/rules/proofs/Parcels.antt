@@ -18,6 +18,7 @@ use Rattle.encode.specs.Encoding.{parcelsOf, formVerdict, jumpForm, loopForm}
 use Rattle.encode.proofs.Reach.{jump-word, loop-word}
 use Rattle.rows.specs.declared.Read.{Read}
 use Rattle.rows.specs.declared.Read.the-variants.{Item}
+use Rattle.places.specs.declared.OpenLoop.{OpenLoop}
 use Rattle.places.specs.Items.{about, size, place, roomsOf}
 use Rattle.places.specs.Build.{Found, at, settled, lastAt, labelled, reach, reaches, jumpParcels, closer, loopParcels, left, gather, put, verdictAt, verdict, taken, built}
 use Rattle.places.proofs.Emitted.{emits, place-emitted}
@@ -57,7 +58,7 @@ pub record AcceptedParcels (names : List ℕ) (it : ℕ → Read) (n : ℕ) (p P
   pub loop : (b e q : ℕ) (o : Pair names it n b e) → Last names it n q e
       → WordAt (loopForm (o .count) (o .mode) (pos (place it q) -ℤ pos (place it b))) (place it b) P
 
-module _ (names : List ℕ) (it : ℕ → Read) (n : ℕ) (p l j k : List ℕ) (named : Named names it) (good : verdict names it n p l j k ≡ Good) where
+module _ (names : List ℕ) (it : ℕ → Read) (n : ℕ) (p l j : List ℕ) (k : List OpenLoop) (named : Named names it) (good : verdict names it n p l j k ≡ Good) where
   abbrev P : List ℕ
   P = built names it n p l j k .P
 

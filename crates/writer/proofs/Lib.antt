@@ -1,6 +1,10 @@
 pub mod Again
 pub mod Held
+pub mod Lent
+pub mod Local
 pub mod Opened
+pub mod Parts
 pub mod Plain
+pub mod Shared
 pub mod Stores
 pub mod Walk

@@ -84,7 +84,7 @@ module _ {M : Type 1} {𝓤 : URA M} {H : Heap 𝓤} {A : Atoms 𝓤} {K : Type 
     token t κ q = use1 W (‵ (flft κ q)) (fst∗ 𝓤 (A .lft κ q) (emp 𝓤))
 
 -- P ⊢ P ∗ Q, where Q holds of nothing
-beside : {M : Type 1} (𝓤 : URA M) (P Q : SProp 𝓤) → ent 𝓤 (emp 𝓤) Q → ent 𝓤 P (sep 𝓤 P Q)
+pub beside : {M : Type 1} (𝓤 : URA M) (P Q : SProp 𝓤) → ent 𝓤 (emp 𝓤) Q → ent 𝓤 P (sep 𝓤 P Q)
 beside 𝓤 P Q h = via 𝓤 (sep 𝓤 (emp 𝓤) P) (emp∗ 𝓤 P) (via 𝓤 (sep 𝓤 P (emp 𝓤)) (comm∗ 𝓤 (emp 𝓤) P) (monoR 𝓤 P h))
 
 abbrev pub ContractOf : {M : Type 1} (𝓤 : URA M) (H : Heap 𝓤) (A : Atoms 𝓤) (T : Ended) → Clauses 𝓤 T → Contract 𝓤

@@ -21,6 +21,8 @@ pub struct Single {
     pub field: Option<u32>,
     /// The word and its bytes in both orders, where the instruction is a scalar one.
     pub scalar: Option<(u64, [u8; 6], [u8; 6])>,
+    /// The parcels that have a name, where the instruction is the leaf return.
+    pub leaf_return: Option<[u16; 6]>,
 }
 
 /// An error, as a program's user and as its programmer see it.
@@ -59,7 +61,6 @@ pub mod rust {
     include!("text.rs");
 }
 
-#[cfg(feature = "same")]
 pub mod port {
     use lhodrupesh::{
         AluOp, Compute, Condition, DataAccess, Direction, Error, FloatMulAlu, IndexRegister,

@@ -21,12 +21,18 @@ fn answered<T>(result: Result<T, VisaError>) -> Result<T, Failure> {
     result.map_err(|error| Failure::of(&error))
 }
 
-/// Builds the kernel of a list of rows whose names are strings.
-pub fn kernel(list: &List) -> Result<Kernel, Stop> {
+/// The program of a list of rows whose names are strings.
+pub fn program(list: &List) -> Result<VisaProgram, Stop> {
     let mut program = VisaProgram::new();
     for row in list.rows() {
         add(&mut program, row, &list.names)?;
     }
+    Ok(program)
+}
+
+/// Builds the kernel of such a list.
+pub fn kernel(list: &List) -> Result<Kernel, Stop> {
+    let program = program(list)?;
     Ok(Kernel {
         parcels: answered(program.parcels()),
         bytes: answered(program.encode()),
@@ -47,15 +53,17 @@ fn add(program: &mut VisaProgram, row: &Row, names: &[u8]) -> Result<(), Stop> {
     Ok(())
 }
 
+/// The instruction of a row.
+pub fn instruction(row: &Row) -> Result<VisaInstruction, Stop> {
+    match row[0] {
+        0..=12 => Ok(scalar(row[0], &row[1..])?.into()),
+        _ => visa(row[0], &row[1..]),
+    }
+}
+
 /// Makes the instruction of a row.
 pub fn single(row: &Row) -> Result<Single, Stop> {
-    let instruction = match row[0] {
-        0..=12 => scalar(row[0], &row[1..])?.into(),
-        _ => visa(row[0], &row[1..])?,
-    };
-    if let VisaInstruction::LeafReturn = instruction {
-        assert_eq!(instruction.parcels(), Ok(LEAF_RETURN_PARCELS.to_vec()));
-    }
+    let instruction = instruction(row)?;
     Ok(Single {
         parcels: answered(instruction.parcels()),
         bytes: answered(instruction.encode()),
@@ -65,6 +73,10 @@ pub fn single(row: &Row) -> Result<Single, Stop> {
         },
         scalar: match instruction {
             VisaInstruction::Scalar(instruction) => Some(words(&instruction)?),
+            _ => None,
+        },
+        leaf_return: match instruction {
+            VisaInstruction::LeafReturn => Some(LEAF_RETURN_PARCELS),
             _ => None,
         },
     })

@@ -93,8 +93,8 @@ loop-count-of-requires c κs = search needs
 loop-mode-of-requires : tie.Need-loop-mode-of-requires
 loop-mode-of-requires c κs = search needs
 
-instruction-of-requires : tie.Need-instruction-of-requires
-instruction-of-requires c κs = search needs
+instruction-item-requires : tie.Need-instruction-item-requires
+instruction-item-requires c κs = search needs
 
 returns : tie.Need-returns
 unfolding itemOf
@@ -126,7 +126,7 @@ returns-7 c = rw (c .match .keys7)
 
 returns-8 : tie.Need-returns-8
 unfolding itemOf
-returns-8 c = rw (ne-eqb _ _ (c .before .match .rest .0 .0 .0 .0 .0 .0 .1), ne-eqb _ _ (c .before .match .rest .0 .0 .0 .0 .0 .1), ne-eqb _ _ (c .before .match .rest .0 .0 .0 .0 .1), ne-eqb _ _ (c .before .match .rest .0 .0 .0 .1), ne-eqb _ _ (c .before .match .rest .0 .0 .1), ne-eqb _ _ (c .before .match .rest .0 .1), ne-eqb _ _ (c .before .match .rest .1), c .instruction-of .ensures)
+returns-8 c = rw (ne-eqb _ _ (c .before .match .rest .0 .0 .0 .0 .0 .0 .1), ne-eqb _ _ (c .before .match .rest .0 .0 .0 .0 .0 .1), ne-eqb _ _ (c .before .match .rest .0 .0 .0 .0 .1), ne-eqb _ _ (c .before .match .rest .0 .0 .0 .1), ne-eqb _ _ (c .before .match .rest .0 .0 .1), ne-eqb _ _ (c .before .match .rest .0 .1), ne-eqb _ _ (c .before .match .rest .1), c .instruction-item .ensures)
 
 pub item-of-spec : {M : Type 1} → statement M
 item-of-spec =
@@ -161,7 +161,7 @@ item-of-spec =
     condition-of-requires
     loop-count-of-requires
     loop-mode-of-requires
-    instruction-of-requires
+    instruction-item-requires
     returns
     returns-2
     returns-3

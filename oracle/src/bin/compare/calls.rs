@@ -1,5 +1,4 @@
-//! The port's calls on a list, each against what is expected of it. Those that the library lacks
-//! are left out.
+//! The port's calls on a list, each against what is expected of it.
 
 use visa_oracle::cases::Case;
 
@@ -10,36 +9,17 @@ type Check = fn(&Case, &Tally) -> Option<String>;
 
 /// Each call, by what it is called in a report.
 pub const CALLS: &[(&str, Check)] = &[
-    #[cfg(feature = "build")]
     ("build", build::difference),
-    #[cfg(feature = "counts")]
     ("counts", counts::difference),
-    #[cfg(feature = "slots")]
     ("slot check", slots::difference),
-    #[cfg(feature = "bytes")]
     ("bytes", bytes::difference),
-    #[cfg(feature = "same")]
     ("the Rust crate", same::difference),
 ];
 
-/// What the library that was linked lacks.
-pub const LACKING: &[&str] = &[
-    #[cfg(not(feature = "build"))]
-    "lhodrupesh_build",
-    #[cfg(not(feature = "counts"))]
-    "lhodrupesh_parcel_count or lhodrupesh_instruction_count",
-    #[cfg(not(feature = "slots"))]
-    "lhodrupesh_slot_check",
-    #[cfg(not(feature = "bytes"))]
-    "lhodrupesh_bytes",
-];
-
-#[allow(dead_code)]
 fn unlike<T: PartialEq + std::fmt::Debug>(expected: T, found: T) -> Option<String> {
     (found != expected).then(|| format!("{expected:?}\n  expected, {found:?}\n  found"))
 }
 
-#[cfg(feature = "build")]
 mod build {
     use std::sync::atomic::Ordering::Relaxed;
 
@@ -78,7 +58,6 @@ mod build {
     }
 }
 
-#[cfg(feature = "counts")]
 mod counts {
     use visa_oracle::cases::Case;
     use visa_oracle::linked::counts;
@@ -96,7 +75,6 @@ mod counts {
     }
 }
 
-#[cfg(feature = "slots")]
 mod slots {
     use visa_oracle::cases::Case;
     use visa_oracle::linked;
@@ -112,7 +90,6 @@ mod slots {
     }
 }
 
-#[cfg(feature = "bytes")]
 mod bytes {
     use visa_oracle::cases::{Case, Guarded};
     use visa_oracle::linked::bytes::{plain_write, write, Written};
@@ -156,7 +133,6 @@ mod bytes {
     }
 }
 
-#[cfg(feature = "same")]
 mod same {
     use visa_oracle::cases::Case;
     use visa_oracle::list::List;

@@ -52,16 +52,16 @@ pub fn compare(options: &Options, count: u64) -> bool {
 /// What a list is called, and how it is made.
 type Made = (String, Box<dyn Fn() -> Case>);
 
-/// The sample's lists, with exactly what they need lent and with more; in a run that isn't short
-/// the lists at the limits.
+/// The sample's lists, with exactly what they need lent, with more, and with every length around
+/// that of each buffer; in a run that isn't short the lists at the limits.
 fn chosen(short: bool) -> Vec<Made> {
     let sample = list::read(&sample_lists::sample()).expect("the sample's lines are rows");
     let mut made: Vec<Made> = Vec::new();
     for (number, list) in sample.into_iter().enumerate() {
-        for more in [0, 7] {
+        for lengths in around(&list) {
             let list = list.clone();
             let name = format!("list {number} of the sample");
-            made.push((name, Box::new(move || lent(&list, more))));
+            made.push((name, Box::new(move || Case { list: list.clone(), lengths })));
         }
     }
     if !short {
@@ -70,8 +70,17 @@ fn chosen(short: bool) -> Vec<Made> {
     made
 }
 
-fn lent(list: &List, more: usize) -> Case {
-    Case { list: list.clone(), lengths: Lengths::for_list(list, more) }
+/// Exactly what a list takes, more of each, and around it for one buffer at a time.
+fn around(list: &List) -> Vec<Lengths> {
+    const NEAR: usize = 4;
+    let exact = Lengths::for_list(list, 0);
+    let near = |need: usize| need.saturating_sub(NEAR)..=need + NEAR;
+    let mut all = vec![exact, Lengths::for_list(list, 7)];
+    all.extend(near(exact.parcels).map(|parcels| Lengths { parcels, ..exact }));
+    all.extend(near(exact.labels).map(|labels| Lengths { labels, ..exact }));
+    all.extend(near(exact.jumps).map(|jumps| Lengths { jumps, ..exact }));
+    all.extend(near(exact.loops).map(|loops| Lengths { loops, ..exact }));
+    all
 }
 
 fn differs(case: &Case, tally: &Tally) -> bool {

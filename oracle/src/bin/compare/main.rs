@@ -10,17 +10,17 @@ use std::process::ExitCode;
 
 use options::Options;
 
-const USAGE: &str =
-    "usage: compare all|rows|lists [--short] [--seed N] [--count N] [--jobs N] [--partial]
-       compare speed rows [--seed N] [--count N]";
+const USAGE: &str = "usage: compare all|rows|lists [--short] [--seed N] [--count N] [--jobs N]
+       compare speed [--seed N] [--count N] [--write FOLDER]
+       compare memory port|rust|stack";
 
 /// Random rows and lists of a full run and of a short one.
 const ROWS: u64 = 10_000_000;
 const LISTS: u64 = 1_000_000;
-const SHORT_ROWS: u64 = 200_000;
-const SHORT_LISTS: u64 = 20_000;
+const SHORT_ROWS: u64 = 1_000_000;
+const SHORT_LISTS: u64 = 100_000;
 /// Timed runs.
-const RUNS: u64 = 401;
+const RUNS: u64 = 201;
 
 fn main() -> ExitCode {
     let words: Vec<String> = std::env::args().skip(1).collect();
@@ -40,14 +40,19 @@ fn run(words: &[String]) -> Result<bool, String> {
     match words.as_slice() {
         ["all", rest @ ..] => {
             let options = Options::read(rest)?;
-            Ok(compare_rows(&options) && compare_lists(&options)?)
+            Ok(compare_rows(&options) && compare_lists(&options))
         }
         ["rows", rest @ ..] => Ok(compare_rows(&Options::read(rest)?)),
-        ["lists", rest @ ..] => compare_lists(&Options::read(rest)?),
-        ["speed", "rows", rest @ ..] => {
+        ["lists", rest @ ..] => Ok(compare_lists(&Options::read(rest)?)),
+        ["speed", rest @ ..] => {
             let options = Options::read(rest)?;
-            speed::check_processor()?;
-            speed::rows(options.seed, options.count.unwrap_or(RUNS));
+            let runs = options.count.unwrap_or(RUNS);
+            speed::run(options.seed, runs, options.write.as_deref())?;
+            Ok(true)
+        }
+        ["memory", what] => {
+            let what = speed::What::read(what).ok_or_else(|| USAGE.to_string())?;
+            println!("{}", speed::measure_memory(what));
             Ok(true)
         }
         _ => Err(USAGE.to_string()),
@@ -59,15 +64,7 @@ fn compare_rows(options: &Options) -> bool {
     rows::compare(options, count)
 }
 
-/// Compares what the library has. What it lacks is named, and let pass in a partial run alone.
-fn compare_lists(options: &Options) -> Result<bool, String> {
-    let lacking = calls::LACKING.join(", ");
-    if !lacking.is_empty() && !options.partial {
-        return Err(format!("the library has no {lacking} (--partial compares the others)"));
-    }
-    if !lacking.is_empty() {
-        println!("compare lists: not compared, since the library has no {lacking}");
-    }
+fn compare_lists(options: &Options) -> bool {
     let count = options.count.unwrap_or(if options.short { SHORT_LISTS } else { LISTS });
-    Ok(calls::CALLS.is_empty() || lists::compare(options, count))
+    lists::compare(options, count)
 }

@@ -94,17 +94,11 @@ fn call_difference(slice: &[u32]) -> Option<String> {
 }
 
 /// How the port's Rust crate differs from the Rust.
-#[cfg(feature = "same")]
 fn same(slice: &[u32]) -> Option<String> {
     use visa_oracle::same::{port, rust};
     let row = slice.try_into().ok()?;
     let (expected, found) = (rust::single(row), port::single(row));
     (found != expected).then(|| format!("the Rust's types give {expected:?}, the port's {found:?}"))
-}
-
-#[cfg(not(feature = "same"))]
-fn same(_: &[u32]) -> Option<String> {
-    None
 }
 
 /// A random row, and now and then a slice that is none.

@@ -8,7 +8,7 @@ use borrow.Author.Needs.{needs}
 use Rattle.places.specs.Items.{rowAt}
 use Rattle.machine.specs.Finish.{waitChk, waited}
 use Rattle.machine.specs.Scan.{Going, going-start, going-next, going-stop, going-end}
-use Rattle.build.proofs.Reading.{row-fine}
+use Rattle.joins.proofs.Fine.{row-fine}
 use Rattle.build.proofs.jumps.aim_all.Statement.{statement}
 use Rattle.build.proofs.jumps.aim_all.Tie as tie
 

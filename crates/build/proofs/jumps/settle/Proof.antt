@@ -41,7 +41,7 @@ same-length c = search needs
 
 returns-2 : tie.Need-returns-2
 unfolding aimForm
-returns-2 c = let a = c .before .before .before .before .before .before .before .before .before .before .before .before .args in let e : c .before .before .before .before .before .before .before .before .jump-form .result ≡ aimForm (a .condition) (a .p) (a .q) = rw (c .before .before .before .before .before .before .before .before .jump-form .ensures, toZ-ofZ (sfits-of (c .before .before .before .before .before .before .before .before .before .apart .ok)), c .before .before .before .before .before .before .before .before .before .apart .ensures ∙ ap (λ (x : ℕ). pos x -ℤ pos (a .p)) (c .before .before .before .before .before .before .before .before .before .before .wide .ensures)) in (rw (← e) (sym (c .before .before .before .before .before .enum-told .given .1) ∙ c .before .before .before .before .before .before .before .form-verdict .ensures), rw (← e, ← c .before .before .before .settled .ensures) (c .before .before .mend .ensures))
+returns-2 c = let a = c .before .before .before .before .before .before .before .before .before .before .before .before .args in let e : c .before .before .before .before .before .before .before .before .jump-form .result ≡ aimForm (a .condition) (a .p) (a .q) = rw (c .before .before .before .before .before .before .before .before .jump-form .ensures, toZ-ofZ (sfits-of (c .before .before .before .before .before .before .before .before .before .apart .ok)), c .before .before .before .before .before .before .before .before .before .apart .ensures ∙ ap (λ (x : ℕ). pos x -ℤ pos (a .p)) (c .before .before .before .before .before .before .before .before .before .before .wide .ensures)) in (rw (← e) (sym (c .before .before .before .before .before .enum-told .given .1) ∙ c .before .before .before .before .before .before .before .form-verdict .ensures), rw (← e, ← c .before .before .before .settled .ensures) (c .before .before .mend .ensures .1))
 
 pub settle-spec : {M : Type 1} → statement M
 settle-spec =

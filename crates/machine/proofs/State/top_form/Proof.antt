@@ -1,85 +1,48 @@
--- The record's four numbers, and the offset as it stands.
-use Prim.Native.Nat.{_*_, _-_}
-use native.Mathlib.Omega.{arith}
-use mir.Facts.{toZ-ofZ}
-use borrow.Author.Needs.{sfits-of, needs}
 use Rattle.machine.specs.Machine.{topForm}
+use borrow.Author.Needs.{sfits-of}
+use mir.Facts.{toZ-ofZ}
+use borrow.Author.Needs.{needs}
 use Rattle.machine.proofs.State.top_form.Statement.{statement}
 use Rattle.machine.proofs.State.top_form.Tie as tie
+use Rattle.machine.proofs.State.top_form.Reads as reads
+use Rattle.machine.proofs.State.top_form.Lts as lts
+use Rattle.encode.proofs.loop_form.Reads as loop-form-reads
+use Rattle.machine.proofs.records.count_from.Reads as count-from-reads
+use Rattle.machine.proofs.records.mode_from.Reads as mode-from-reads
+use Rattle.machine.proofs.tables.wide.Reads as wide-reads
+use Rattle.signs.proofs.apart.Reads as apart-reads
 
-mul-wide : tie.Need-mul-wide
-mul-wide c = search needs
-
-sub-wide : tie.Need-sub-wide
-sub-wide c = search needs
-
-mul-wide-2 : tie.Need-mul-wide-2
-mul-wide-2 c = search needs
-
-shared-slice-read-wide : tie.Need-shared-slice-read-wide
-shared-slice-read-wide c = search needs
-
+-- src/lib.rt:309:13
 wide-requires : tie.Need-wide-requires
 wide-requires c κs = search needs
 
-mul-count-from : tie.Need-mul-count-from
-mul-count-from c = search needs
-
-sub-count-from : tie.Need-sub-count-from
-sub-count-from c = search needs
-
-mul-count-from-2 : tie.Need-mul-count-from-2
-mul-count-from-2 c = search needs
-
-shared-slice-read-count-from : tie.Need-shared-slice-read-count-from
-shared-slice-read-count-from c = search needs
-
+-- src/lib.rt:310:13
 count-from-requires : tie.Need-count-from-requires
 count-from-requires c κs = search needs
 
-mul-mode-from : tie.Need-mul-mode-from
-mul-mode-from c = search needs
-
-sub-mode-from : tie.Need-sub-mode-from
-sub-mode-from c = search needs
-
-mul-mode-from-2 : tie.Need-mul-mode-from-2
-mul-mode-from-2 c = search needs
-
-shared-slice-read-mode-from : tie.Need-shared-slice-read-mode-from
-shared-slice-read-mode-from c = search needs
-
+-- src/lib.rt:311:13
 mode-from-requires : tie.Need-mode-from-requires
 mode-from-requires c κs = search needs
 
+-- src/lib.rt:312:40
 apart-requires : tie.Need-apart-requires
-apart-requires c κs = omega (arith, c .before .before .before .before .wide .ensures, c .before .before .before .before .before .before .shared-slice-known .given (4 * c .before .before .before .before .before .before .before .args .self .depth - 4))
+apart-requires c κs = search needs
 
+-- src/lib.rt:312:9
 loop-form-requires : tie.Need-loop-form-requires
 loop-form-requires c κs = search needs
 
+-- src/lib.rt:305:5
 returns : tie.Need-returns
 unfolding topForm
-returns c = rw (c .loop-form .ensures, c .before .before .before .before .count-from .ensures, c .before .before .mode-from .ensures, toZ-ofZ (sfits-of (c .before .apart .ok)), c .before .apart .ensures, c .before .before .before .before .before .before .wide .ensures)
+returns c = rw (c .loop-form .ensures, c .before .before .before .count-from .ensures, c .before .before .mode-from .ensures, toZ-ofZ (sfits-of (c .before .apart .ok)), c .before .apart .ensures, c .before .before .before .before .wide .ensures)
 
 pub top-form-spec : {M : Type 1} → statement M
 top-form-spec =
     tie.close
     (tie.spec
-    mul-wide
-    sub-wide
-    mul-wide-2
-    shared-slice-read-wide
     wide-requires
-    mul-count-from
-    sub-count-from
-    mul-count-from-2
-    shared-slice-read-count-from
     count-from-requires
-    mul-mode-from
-    sub-mode-from
-    mul-mode-from-2
-    shared-slice-read-mode-from
     mode-from-requires
     apart-requires
     loop-form-requires

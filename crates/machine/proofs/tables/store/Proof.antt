@@ -5,7 +5,7 @@ use native.Mathlib.Omega.{arith}
 use lib.ListN.{length, take, length-set}
 use lib.Seq.{sets}
 use borrow.Author.Needs.{needs}
-use Rattle.machine.proofs.Stores.{stores-more}
+use Rattle.writer.proofs.Stores.{stores-more}
 use Rattle.machine.proofs.tables.store.Statement.{statement}
 use Rattle.machine.proofs.tables.store.Tie as tie
 

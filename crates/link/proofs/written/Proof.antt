@@ -1,0 +1,29 @@
+-- By the cases of the answer, and the number and detail that the refusal tells.
+use mathlib.Core.Path.{_≡_}
+use mir.Syntax.{w64}
+use mir.Val.{toZ, ofZ}
+use borrow.Author.Needs.{needs}
+use Rattle.link.proofs.written.Statement.{statement}
+use Rattle.link.proofs.written.Tie as tie
+
+enum-known-answer : tie.Need-enum-known-answer
+enum-known-answer c = search needs
+
+enum-known-answer-2 : tie.Need-enum-known-answer-2
+enum-known-answer-2 c = search needs
+
+told-requires : tie.Need-told-requires
+told-requires c κs = search needs
+
+returns : tie.Need-returns
+returns c = rw (c .before .answer .given .1)
+
+returns-2 : tie.Need-returns-2
+returns-2 c =
+    let told = c .before .told .result in
+    let first : toZ w64 (ofZ w64 (told .first)) ≡ told .first = search needs in
+    rw (c .before .before .before .answer2 .given .1, ← c .before .told .ensures, first)
+
+pub written-spec : {M : Type 1} → statement M
+written-spec =
+    tie.close (tie.spec enum-known-answer enum-known-answer-2 told-requires returns returns-2)

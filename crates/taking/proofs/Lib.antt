@@ -1,0 +1,4 @@
+pub mod NextRow
+pub mod Past
+pub mod Turning
+pub mod Values

@@ -1,0 +1,298 @@
+// The rows in turn over the lent buffers: a turn for each row, then one for each loop that is left open. The functions that hold
+// the lent loop records only call; what thinks takes a record by value.
+ghost use mathlib.Core.Path.{_≡_};
+ghost use Prim.Native.Nat.{_-_, _<_};
+ghost use lib.ListN.{length, getD, set};
+ghost use lib.Dec.{ltb};
+ghost use Rattle.places.specs.Items.{rowsIn};
+ghost use Rattle.places.specs.Build.{zeroLoop};
+ghost use Rattle.machine.specs.Machine.{Fine, Rooming};
+ghost use Rattle.taking.specs.Taking.{goingOn, startOf, moreOf, lateOf, turnedOf, closedOf, RowTurn, Stepping, Onward, Ready, Turnt, Took};
+use machine::State;
+use machine::Step;
+use places::OpenLoop;
+use places::Rooms;
+use refusals::Refusal;
+use refusals::Verdict;
+
+// Where the rows stand: the state, the next row, and the first refusal if there is one.
+pub struct Taking {
+    pub state: State,
+    pub row: usize,
+    pub verdict: Verdict,
+}
+
+// What a turn makes of it, and the loop record it leaves in a slot of the lent table; a slot past the table is none.
+pub struct Turned {
+    pub taking: Taking,
+    pub slot: usize,
+    pub rec: OpenLoop,
+}
+
+// A loop record at rest.
+pub fn zero_loop() -> OpenLoop
+    ensures { λ r. ⌜ r ≡ zeroLoop ⌝ }
+{
+    OpenLoop {
+        place: 0,
+        first: 0,
+        count: 0,
+        mode: 0,
+    }
+}
+
+// Before the first row; a slice that is no rows is refused at once.
+pub fn start(rows: &[u32]) -> Taking
+    ensures { λ r. ⌜ r ≡ startOf (now (rows .entry)) ⌝ }
+{
+    let state = State::start();
+    if rows::well_formed(rows) {
+        return Taking {
+            state,
+            row: 0,
+            verdict: Verdict::Good,
+        };
+    }
+    Taking {
+        state,
+        row: 0,
+        verdict: Verdict::Refused(Refusal::RowSlice),
+    }
+}
+
+// Whether a row is next.
+pub fn going(rows: &[u32], t: Taking) -> bool
+    ensures { λ r. ⌜ r ≡ goingOn (t .verdict) (ltb (t .row) (rowsIn (now (rows .entry)))) ⌝ }
+{
+    let verdict = t.verdict;
+    match verdict {
+        Verdict::Good => t.row < rows.len() / 17,
+        Verdict::Refused(_) => false,
+    }
+}
+
+// Whether there is another turn: a row, or a loop that is left open.
+pub fn more(rows: &[u32], t: Taking) -> bool
+    ensures { λ r. ⌜ r ≡ moreOf (now (rows .entry)) t ⌝ }
+{
+    let state = t.state;
+    if 0 < state.depth {
+        return true;
+    }
+    going(rows, t)
+}
+
+// The slot of the innermost open loop.
+pub fn innermost(t: Taking) -> usize
+    ensures { λ r. ⌜ r ≡ t .state .depth - 1 ⌝ }
+{
+    let state = t.state;
+    if state.depth == 0 {
+        return 0;
+    }
+    state.depth - 1
+}
+
+// A row's step as a turn: the record pushed, or a zero for the one popped, or no slot.
+pub fn after(t: Taking, step: Step, top: OpenLoop, lent: usize) -> Turned
+    requires { ⌜ t .row < 4194304 ⌝ }
+    ensures { λ r. ⌜ r ≡ turnedOf t step top lent ⌝ }
+{
+    let row = t.row;
+    let state = t.state;
+    match step {
+        Step::On(s) => Turned {
+            taking: Taking {
+                state: s,
+                row: row + 1,
+                verdict: Verdict::Good,
+            },
+            slot: lent,
+            rec: top,
+        },
+        Step::Opened(s, start) => Turned {
+            taking: Taking {
+                state: s,
+                row: row + 1,
+                verdict: Verdict::Good,
+            },
+            slot: state.depth,
+            rec: start,
+        },
+        Step::Closed(s) => Turned {
+            taking: Taking {
+                state: s,
+                row: row + 1,
+                verdict: Verdict::Good,
+            },
+            slot: innermost(t),
+            rec: zero_loop(),
+        },
+        Step::Stop(r) => Turned {
+            taking: Taking {
+                state,
+                row,
+                verdict: Verdict::Refused(r),
+            },
+            slot: lent,
+            rec: top,
+        },
+    }
+}
+
+// The refusal once no row is next: the first one, or 23.
+pub fn late(verdict: Verdict) -> Refusal
+    ensures { λ r. ⌜ r ≡ lateOf verdict ⌝ }
+{
+    match verdict {
+        Verdict::Good => Refusal::UnclosedLoop,
+        Verdict::Refused(r) => r,
+    }
+}
+
+// A turn past the rows: the innermost loop that is left open is closed.
+pub fn close(t: Taking) -> Turned
+    ensures { λ r. ⌜ r ≡ closedOf t (lateOf (t .verdict)) ⌝ }
+{
+    let slot = innermost(t);
+    let verdict = t.verdict;
+    let mut state = t.state;
+    state.depth = slot;
+    Turned {
+        taking: Taking {
+            state,
+            row: t.row,
+            verdict: Verdict::Refused(late(verdict)),
+        },
+        slot,
+        rec: zero_loop(),
+    }
+}
+
+// A turn at the next row.
+pub fn row(
+    rows: &[u32],
+    names: &[u8],
+    rooms: Rooms,
+    parcels: &mut [u16],
+    labels: &mut [u32],
+    jumps: &mut [u32],
+    t: Taking,
+    top: OpenLoop,
+    lent: usize,
+) -> Turned
+    requires { ⌜ (Fine (now names) rooms (t .state) (now parcels) (now labels) (now jumps) top) × (t .row < rowsIn (now rows)) × (t .row < 4194304) ⌝ }
+    ensures { λ r. ⌜ RowTurn (now (rows .entry)) (now (names .entry)) rooms t (now (parcels .entry)) (now (labels .entry)) (now (jumps .entry)) top lent r (now (parcels .exit)) (now (labels .exit)) (now (jumps .exit)) ⌝ }
+{
+    let at = t.row;
+    let state = t.state;
+    let read = rows::read_at(rows, at, names.len());
+    let step = state.step(rooms, read, at as u32, names, parcels, labels, jumps, top);
+    after(t, step, top, lent)
+}
+
+// A turn: the next row's, or past the rows.
+pub fn step(
+    rows: &[u32],
+    names: &[u8],
+    rooms: Rooms,
+    parcels: &mut [u16],
+    labels: &mut [u32],
+    jumps: &mut [u32],
+    t: Taking,
+    top: OpenLoop,
+    lent: usize,
+) -> Turned
+    requires { ⌜ Stepping (now rows) (now names) rooms t (now parcels) (now labels) (now jumps) top lent ⌝ }
+    ensures { λ r. ⌜ Onward (now (rows .entry)) (now (names .entry)) rooms t (now (parcels .entry)) (now (labels .entry)) (now (jumps .entry)) top lent r (now (parcels .exit)) (now (labels .exit)) (now (jumps .exit)) ⌝ }
+{
+    if going(rows, t) {
+        return row(rows, names, rooms, parcels, labels, jumps, t, top, lent);
+    }
+    close(t)
+}
+
+// The record in a slot of the table; zero past its end.
+pub fn top(loops: &[OpenLoop], at: usize) -> OpenLoop
+    ensures { λ r. ⌜ r ≡ getD (now (loops .entry)) at zeroLoop ⌝ }
+{
+    if at < loops.len() {
+        loops[at]
+    } else {
+        OpenLoop {
+            place: 0,
+            first: 0,
+            count: 0,
+            mode: 0,
+        }
+    }
+}
+
+// A record stands in a slot of the table, if it has that slot.
+pub fn put_if(loops: &mut [OpenLoop], at: usize, rec: OpenLoop)
+    ensures { λ _. ⌜ now (loops .exit) ≡ set (now (loops .entry)) at rec ⌝ }
+{
+    if at < loops.len() {
+        loops[at] = rec;
+    }
+}
+
+// A turn over the table: its innermost record is read, and the turn's record left in its slot.
+pub fn turn(
+    rows: &[u32],
+    names: &[u8],
+    rooms: Rooms,
+    parcels: &mut [u16],
+    labels: &mut [u32],
+    jumps: &mut [u32],
+    loops: &mut [OpenLoop],
+    t: Taking,
+) -> Taking
+    requires { ⌜ Ready (now rows) (now names) rooms t (now parcels) (now labels) (now jumps) (now loops) ⌝ }
+    ensures { λ r. ⌜ Turnt (now (rows .entry)) (now (names .entry)) rooms t (now (parcels .entry)) (now (labels .entry)) (now (jumps .entry)) (now (loops .entry)) r (now (parcels .exit)) (now (labels .exit)) (now (jumps .exit)) (now (loops .exit)) ⌝ }
+{
+    let slot = innermost(t);
+    let found = top(&*loops, slot);
+    let out = step(
+        rows,
+        names,
+        rooms,
+        &mut *parcels,
+        &mut *labels,
+        &mut *jumps,
+        t,
+        found,
+        loops.len(),
+    );
+    put_if(&mut *loops, out.slot, out.rec);
+    out.taking
+}
+
+// The rows in turn, up to the first refusal; then the loops that are left open, the innermost first.
+pub fn take_rows(
+    rows: &[u32],
+    names: &[u8],
+    rooms: Rooms,
+    parcels: &mut [u16],
+    labels: &mut [u32],
+    jumps: &mut [u32],
+    loops: &mut [OpenLoop],
+) -> Taking
+    requires { ⌜ Rooming rooms (length (now parcels)) (length (now labels)) (length (now jumps)) (length (now loops)) ⌝ }
+    ensures { λ r. ⌜ Took (now (rows .entry)) (now (names .entry)) rooms (now (parcels .entry)) (now (labels .entry)) (now (jumps .entry)) (now (loops .entry)) r (now (parcels .exit)) (now (labels .exit)) (now (jumps .exit)) (now (loops .exit)) ⌝ }
+{
+    let mut t = start(rows);
+    while more(rows, t) {
+        t = turn(
+            rows,
+            names,
+            rooms,
+            &mut *parcels,
+            &mut *labels,
+            &mut *jumps,
+            &mut *loops,
+            t,
+        );
+    }
+    t
+}
