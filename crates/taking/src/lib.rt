@@ -7,7 +7,7 @@ ghost use lib.Dec.{ltb};
 ghost use Rattle.places.specs.Items.{rowsIn};
 ghost use Rattle.places.specs.Build.{zeroLoop};
 ghost use Rattle.machine.specs.Machine.{Fine, Rooming};
-ghost use Rattle.taking.specs.Taking.{goingOn, startOf, moreOf, lateOf, turnedOf, closedOf, RowTurn, Stepping, Onward, Ready, Turnt, Took};
+ghost use Rattle.taking.specs.Taking.{goingOn, startOf, moreOf, wentOn, lateOf, turnedOf, closedOf, RowTurn, Stepping, Onward, Ready, Turnt, Took};
 use machine::State;
 use machine::Step;
 use places::OpenLoop;
@@ -93,45 +93,44 @@ pub fn innermost(t: Taking) -> usize
     state.depth - 1
 }
 
+// Past the row, in the state that it made.
+fn on(t: Taking, state: State) -> Taking
+    requires { ⌜ t .row < 4194304 ⌝ }
+    ensures { λ r. ⌜ r ≡ wentOn t state ⌝ }
+{
+    Taking {
+        state,
+        row: t.row + 1,
+        verdict: Verdict::Good,
+    }
+}
+
 // A row's step as a turn: the record pushed, or a zero for the one popped, or no slot.
 pub fn after(t: Taking, step: Step, top: OpenLoop, lent: usize) -> Turned
     requires { ⌜ t .row < 4194304 ⌝ }
     ensures { λ r. ⌜ r ≡ turnedOf t step top lent ⌝ }
 {
-    let row = t.row;
     let state = t.state;
     match step {
         Step::On(s) => Turned {
-            taking: Taking {
-                state: s,
-                row: row + 1,
-                verdict: Verdict::Good,
-            },
+            taking: on(t, s),
             slot: lent,
             rec: top,
         },
         Step::Opened(s, start) => Turned {
-            taking: Taking {
-                state: s,
-                row: row + 1,
-                verdict: Verdict::Good,
-            },
+            taking: on(t, s),
             slot: state.depth,
             rec: start,
         },
         Step::Closed(s) => Turned {
-            taking: Taking {
-                state: s,
-                row: row + 1,
-                verdict: Verdict::Good,
-            },
+            taking: on(t, s),
             slot: innermost(t),
             rec: zero_loop(),
         },
         Step::Stop(r) => Turned {
             taking: Taking {
                 state,
-                row,
+                row: t.row,
                 verdict: Verdict::Refused(r),
             },
             slot: lent,

@@ -25,7 +25,8 @@ the thread, so that other work on the machine is not in them, in nanoseconds an 
   lent again from run to run and not cleared between.
 - **The Rust from rows** makes a `VisaProgram` of the same rows through its public constructors and calls `parcels()`: construction is included, and
   so are its allocations and their freeing. **The Rust's `parcels()`** is that call alone, on a program made before.
-- The allocator keeps what was freed (`mallopt`: no `mmap`, no trimming), so no run of the Rust's pays for fresh pages. Without that it is slower.
+- The allocator keeps what was freed (`mallopt`: no `mmap`, no trimming), so no run of the Rust's pays for fresh pages. Without that
+  its longest kernels take about a third more with construction, the others the same.
 - **The port's Rust types** are the crate in `rust/` with the same program text as the Rust's: it turns values into rows, lends buffers of its own and
   calls the build.
 - **memcpy of the rows** is the floor: 68 bytes an item, read and written.
