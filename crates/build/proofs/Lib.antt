@@ -1,3 +1,4 @@
 pub mod Settled
 pub mod Table
+pub mod Waits
 pub mod Whole

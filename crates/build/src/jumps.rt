@@ -6,18 +6,17 @@ ghost use lib.Seq.{sets};
 ghost use Rattle.encode.specs.Encoding.{formVerdict};
 ghost use Rattle.places.specs.Items.{rowAt, rowsIn};
 ghost use Rattle.places.specs.Build.{ifGood, settled};
-ghost use Rattle.machine.specs.Machine.{lookup, ItemFine, ReadFine};
+ghost use Rattle.machine.specs.Machine.{lookup, EntryFine};
 ghost use Rattle.machine.specs.Scan.{Came};
-ghost use Rattle.machine.specs.Finish.{aimForm, aimChk, aimed, itemChk, itemAimed, readChk, readAimed, waitChk, waited, AimFine, AimsFine};
+ghost use Rattle.machine.specs.Finish.{aimForm, aimChk, aimed, EntryAimed, waitChk, waited, AimFine, AimsFine};
+use entries::Entry;
 use items::Condition;
-use items::Item;
 use machine::Sought;
 use machine::names;
 use machine::records;
 use machine::tables;
 use refusals::Refusal;
 use refusals::Verdict;
-use rows::Read;
 
 // The word of a jump at place p to place q stands there, if it encodes.
 pub fn settle(condition: Condition, p: usize, q: u32, parcels: &mut [u16]) -> Verdict
@@ -57,49 +56,25 @@ pub fn aim_one(
     }
 }
 
-// The item of a waiting jump's row at place p.
-pub fn aim_item(
-    it: Item,
+// The entry of a waiting jump's row at place p.
+pub fn aim_entry(
+    entry: Entry,
     names: &[u8],
     parcels: &mut [u16],
     labels: &[u32],
     n: usize,
     p: usize,
 ) -> Verdict
-    requires { ⌜ (AimFine (now names) (now labels) n p (length (now parcels))) × ItemFine (now names) it ⌝ }
-    ensures { λ r. ⌜ (r ≡ itemChk (now (names .entry)) (now (labels .entry)) n p it) × (now (parcels .exit) ≡ ifGood r (itemAimed (now (names .entry)) (now (labels .entry)) n p it (now (parcels .entry))) (now (parcels .entry))) ⌝ }
+    requires { ⌜ (AimFine (now names) (now labels) n p (length (now parcels))) × EntryFine (now names) entry ⌝ }
+    ensures { λ r. ⌜ EntryAimed (now (names .entry)) (now (labels .entry)) n p entry (now (parcels .entry)) r (now (parcels .exit)) ⌝ }
 {
-    match it {
-        Item::Instruction(_) => Verdict::Good,
-        Item::Label {
-            start: _,
-            length: _,
-        } => Verdict::Good,
-        Item::Jump {
+    match entry {
+        Entry::Jump {
             condition,
             start,
             length,
         } => aim_one(condition, start, length, names, parcels, labels, n, p),
-        Item::LoopBegin { count: _, mode: _ } => Verdict::Good,
-        Item::LoopEnd => Verdict::Good,
-    }
-}
-
-// What was read of a waiting jump's row at place p.
-pub fn aim_row(
-    read: Read,
-    names: &[u8],
-    parcels: &mut [u16],
-    labels: &[u32],
-    n: usize,
-    p: usize,
-) -> Verdict
-    requires { ⌜ (AimFine (now names) (now labels) n p (length (now parcels))) × ReadFine (now names) read ⌝ }
-    ensures { λ r. ⌜ (r ≡ readChk (now (names .entry)) (now (labels .entry)) n p read) × (now (parcels .exit) ≡ ifGood r (readAimed (now (names .entry)) (now (labels .entry)) n p read (now (parcels .entry))) (now (parcels .entry))) ⌝ }
-{
-    match read {
-        Read::Item(it) => aim_item(it, names, parcels, labels, n, p),
-        Read::Refused(_) => Verdict::Good,
+        _ => Verdict::Good,
     }
 }
 
@@ -120,8 +95,8 @@ pub fn aim_all(
     while k < count {
         let p = tables::wide(jumps[2 * k]);
         let row = tables::wide(jumps[2 * k + 1]);
-        let read = rows::read_at(rows, row, names.len());
-        let one = aim_row(read, names, parcels, labels, n, p);
+        let entry = entries::entry_at(rows, row, names.len());
+        let one = aim_entry(entry, names, parcels, labels, n, p);
         match one {
             Verdict::Refused(r) => {
                 return Verdict::Refused(r);

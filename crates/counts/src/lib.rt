@@ -1,14 +1,13 @@
 // The parcel count and the instruction count of a list.
 ghost use mathlib.Core.Path.{_≡_};
 ghost use lib.ListN.{length};
-ghost use Rattle.encode.specs.Encoding.{parcelsOf, verdictOf};
-ghost use Rattle.places.specs.Items.{aboutItem};
-ghost use Rattle.counts.specs.Counts.{counted, issued, instructionsOf, encodes, rowVerdict, verdictFor, amountFor, countOf};
-use items::Item;
-use items::VisaInstruction;
+ghost use Rattle.encode.specs.Encoding.{formParcels, formVerdict};
+ghost use Rattle.counts.specs.Counts.{counted, countOf};
+ghost use Rattle.counts.specs.Entries.{formIssued, EntryCounted};
+use encode::Form;
+use entries::Entry;
 use refusals::Refusal;
 use refusals::Verdict;
-use rows::Read;
 
 // What a list is counted in.
 pub enum Counting {
@@ -22,79 +21,78 @@ pub enum Counted {
     Refused(Refusal),
 }
 
-// How many instructions of the machine it is: four for a leaf return.
-fn issued(v: VisaInstruction) -> u32
-    ensures { λ r. ⌜ r ≡ issued v ⌝ }
+// How many instructions of the machine a form is: four for a leaf return.
+fn issued(form: Form) -> u32
+    ensures { λ r. ⌜ r ≡ formIssued form ⌝ }
 {
-    match v {
-        VisaInstruction::LeafReturn => 4,
+    match form {
+        Form::Leaf => 4,
         _ => 1,
     }
 }
 
-// How many instructions an item is.
-fn instructions_of(x: Item) -> u32
-    ensures { λ r. ⌜ r ≡ instructionsOf x ⌝ }
+// How many instructions a row is, or why it is refused.
+fn instructions_of(entry: Entry) -> Counted
+    ensures { λ r. ⌜ EntryCounted Counting.Instructions entry r ⌝ }
 {
-    match x {
-        Item::Instruction(v) => issued(v),
-        Item::Label {
-            start: _,
-            length: _,
-        } => 0,
-        Item::Jump {
-            condition: _,
-            start: _,
-            length: _,
-        } => 1,
-        Item::LoopBegin { count: _, mode: _ } => 1,
-        Item::LoopEnd => 0,
-    }
-}
-
-// The number of an instruction's parcels, or why it does not encode.
-fn encoded(v: VisaInstruction) -> Counted
-    ensures { λ r. ⌜ r ≡ counted (verdictOf v) (length (parcelsOf v)) ⌝ }
-{
-    let e = encode::parcels(v);
-    let count = e.count as u32;
-    let verdict = e.verdict;
-    match verdict {
-        Verdict::Good => Counted::Count(count),
-        Verdict::Refused(r) => Counted::Refused(r),
-    }
-}
-
-// The number of an item's parcels, or why it does not encode.
-fn parcels_of(x: Item) -> Counted
-    ensures { λ r. ⌜ r ≡ counted (encodes x) (aboutItem x .size) ⌝ }
-{
-    match x {
-        Item::Instruction(v) => encoded(v),
-        Item::Label {
+    match entry {
+        Entry::Instruction(form, _, _) => Counted::Count(issued(form)),
+        Entry::Label {
             start: _,
             length: _,
         } => Counted::Count(0),
-        Item::Jump {
+        Entry::Jump {
+            condition: _,
+            start: _,
+            length: _,
+        } => Counted::Count(1),
+        Entry::LoopBegin { count: _, mode: _ } => Counted::Count(1),
+        Entry::LoopEnd => Counted::Count(0),
+        Entry::Refused(r) => Counted::Refused(r),
+    }
+}
+
+// The number of a form's parcels, or why it does not encode.
+fn encoded(form: Form) -> Counted
+    ensures { λ r. ⌜ r ≡ counted (formVerdict form) (length (formParcels form)) ⌝ }
+{
+    match form {
+        Form::Short(_) => Counted::Count(1),
+        Form::Pair(_) => Counted::Count(2),
+        Form::Word(_) => Counted::Count(3),
+        Form::Leaf => Counted::Count(6),
+        Form::Refused(r) => Counted::Refused(r),
+    }
+}
+
+// The number of a row's parcels, or why it is refused or does not encode.
+fn parcels_of(entry: Entry) -> Counted
+    ensures { λ r. ⌜ EntryCounted Counting.Parcels entry r ⌝ }
+{
+    match entry {
+        Entry::Instruction(form, _, _) => encoded(form),
+        Entry::Label {
+            start: _,
+            length: _,
+        } => Counted::Count(0),
+        Entry::Jump {
             condition: _,
             start: _,
             length: _,
         } => Counted::Count(3),
-        Item::LoopBegin { count: _, mode: _ } => Counted::Count(3),
-        Item::LoopEnd => Counted::Count(0),
+        Entry::LoopBegin { count: _, mode: _ } => Counted::Count(3),
+        Entry::LoopEnd => Counted::Count(0),
+        Entry::Refused(r) => Counted::Refused(r),
     }
 }
 
 // What a row counts for, or why it is refused.
-fn count_row(read: Read, what: Counting) -> Counted
-    ensures { λ r. ⌜ r ≡ counted (rowVerdict (verdictFor what) read) (amountFor what read) ⌝ }
+fn count_row(entry: Entry, what: Counting) -> Counted
+    ensures { λ r. ⌜ EntryCounted what entry r ⌝ }
 {
-    match read {
-        Read::Refused(r) => Counted::Refused(r),
-        Read::Item(x) => match what {
-            Counting::Parcels => parcels_of(x),
-            Counting::Instructions => Counted::Count(instructions_of(x)),
-        },
+    match what {
+        Counting::Parcels => parcels_of(entry),
+        Counting::Instructions => instructions_of(entry),
     }
 }
 
@@ -109,7 +107,7 @@ fn count(rows: &[u32], names: &[u8], what: Counting) -> Counted
     let mut count = 0;
     let mut i = 0;
     while i < n {
-        let one = count_row(rows::read_at(rows, i, names.len()), what);
+        let one = count_row(entries::entry_at(rows, i, names.len()), what);
         match one {
             Counted::Count(k) => {
                 count += k;

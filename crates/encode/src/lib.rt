@@ -7,7 +7,7 @@ ghost use Rattle.signs.specs.Signs.{folded};
 ghost use Rattle.computes.specs.Compute.{scalarParts, partsOf};
 ghost use Rattle.words.specs.Forms.{modify19a};
 ghost use Rattle.encode.specs.Rules.{inDag, mixed, writes, dmClashes, pmClashes, sameDag, memoryClashes};
-ghost use Rattle.encode.specs.Encoding.{computeWord, scalarWord, scalarForm, fieldOf, dmModify, dmOffset, jumpForm, callForm, dualFields, dualMove, memoryFields, memoryMove, storeImmediate, countForm, loopForm, formOf, formEncoded, encodedOf};
+ghost use Rattle.encode.specs.Encoding.{computeWord, scalarWord, scalarForm, fieldOf, dmModify, dmOffset, jumpForm, callForm, dualFields, dualMove, memoryFields, memoryMove, storeImmediate, countForm, loopForm, formOf, formEncoded};
 use computes::SingleCompute;
 use computes::compute_word;
 use computes::scalar_parts;
@@ -563,11 +563,4 @@ pub fn cut_form(f: Form) -> Encoded
             places: [0; 6],
         },
     }
-}
-
-// One instruction's parcels, or why it has none.
-pub fn parcels(v: VisaInstruction) -> Encoded
-    ensures { λ r. ⌜ r ≡ encodedOf v ⌝ }
-{
-    cut_form(visa_form(v))
 }

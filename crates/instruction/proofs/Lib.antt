@@ -1,2 +1,3 @@
 pub mod Single
 pub mod Few
+pub mod Cut

@@ -1,11 +1,11 @@
 // One instruction's parcels from its row.
 ghost use mathlib.Core.Path.{_≡_};
-ghost use Rattle.instruction.specs.Instruction.{refusedFor, itemEncoded, isMark, instructionOf};
+ghost use Rattle.instruction.specs.Instruction.{refusedFor, isMark, instructionOf};
+ghost use Rattle.instruction.specs.Entry.{EntryEncoded};
 use encode::Encoded;
-use items::Item;
+use entries::Entry;
 use refusals::Refusal;
 use refusals::Verdict;
-use rows::Read;
 
 // A refused instruction: no parcels, and all six places zero.
 fn refused(refusal: Refusal) -> Encoded
@@ -18,16 +18,14 @@ fn refused(refusal: Refusal) -> Encoded
     }
 }
 
-// The parcels of an item that is an instruction; any other item is refused.
-fn item_parcels(item: Item) -> Encoded
-    ensures { λ r. ⌜ r ≡ itemEncoded item ⌝ }
+// The parcels of an entry that is an instruction's; any other item is refused.
+fn entry_parcels(entry: Entry) -> Encoded
+    ensures { λ r. ⌜ EntryEncoded entry r ⌝ }
 {
-    match item {
-        Item::Instruction(v) => encode::parcels(v),
-        Item::Label { .. } => refused(Refusal::Row),
-        Item::Jump { .. } => refused(Refusal::Row),
-        Item::LoopBegin { .. } => refused(Refusal::Row),
-        Item::LoopEnd => refused(Refusal::Row),
+    match entry {
+        Entry::Instruction(form, _, _) => encode::cut_form(form),
+        Entry::Refused(refusal) => refused(refusal),
+        _ => refused(Refusal::Row),
     }
 }
 
@@ -49,8 +47,5 @@ pub fn instruction(row: &[u32]) -> Encoded
     if is_mark(row[0]) {
         return refused(Refusal::Row);
     }
-    match rows::read_row(row, 0) {
-        Read::Item(item) => item_parcels(item),
-        Read::Refused(refusal) => refused(refusal),
-    }
+    entry_parcels(entries::row_entry(row, 0))
 }

@@ -30,3 +30,31 @@ isBranch (BitSetMode1 v) = false
 isBranch (BitClearMode1 v) = false
 isBranch Nop = false
 isBranch WideNop = false
+
+-- "each delayed `JumpRelative` and each `CJump`", which two delay slots follow
+abbrev pub hasSlots : VisaInstruction → Bool
+hasSlots (Scalar i) = false
+hasSlots (Transfer d s) = false
+hasSlots (LoadImmediate d v) = false
+hasSlots (ModifyIndex i z) = false
+hasSlots (LoadDmPostModify r i m) = false
+hasSlots (StoreDmPostModify r i m) = false
+hasSlots (LoadDmPreModify r i m) = false
+hasSlots (StoreDmPreModify r i m) = false
+hasSlots (LoadDmOffset r i z) = false
+hasSlots (StoreDmOffset r i z) = false
+hasSlots (IntegerSubOne d s) = false
+hasSlots (IntegerPass d s) = false
+hasSlots (IntegerCompareUnsigned l r) = false
+hasSlots (JumpRelative c z d) = d
+hasSlots (CJump t) = true
+hasSlots (PushImmediate v) = false
+hasSlots LeafReturn = false
+hasSlots (Compute k) = false
+hasSlots (DualMove k dm pm) = false
+hasSlots (MemoryMove k a) = false
+hasSlots (StoreImmediate i m v) = false
+hasSlots (BitSetMode1 v) = false
+hasSlots (BitClearMode1 v) = false
+hasSlots Nop = false
+hasSlots WideNop = false

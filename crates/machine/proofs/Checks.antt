@@ -12,7 +12,8 @@ use Rattle.refusals.specs.declared.Verdict.{Verdict}
 use Rattle.refusals.specs.declared.Verdict.the-variants.{Good, Refused}
 use Rattle.items.specs.Kinds.{isBranch}
 use Rattle.items.specs.declared.VisaInstruction.{VisaInstruction}
-use Rattle.encode.specs.Encoding.{parcelsOf, verdictOf, formVerdict}
+use Rattle.encode.specs.declared.Form.{Form}
+use Rattle.encode.specs.Encoding.{parcelsOf, verdictOf, formParcels, formVerdict}
 use Rattle.places.specs.declared.OpenLoop.{OpenLoop}
 use Rattle.places.specs.declared.Rooms.{Rooms}
 use Rattle.places.specs.Build.{when, orElse, first, ifGood}
@@ -21,7 +22,7 @@ use Rattle.machine.specs.declared.Step.{Step}
 use Rattle.machine.specs.declared.Step.the-variants.{Stop}
 use Rattle.machine.specs.declared.Sought.{Sought}
 use Rattle.machine.specs.declared.Sought.the-variants.{At, Nowhere}
-use Rattle.machine.specs.Machine.{isThere, lookup, instructionChk, labelChk, jumpChk, beginChk, endChk, tailShort, topForm, stepBy}
+use Rattle.machine.specs.Machine.{isThere, lookup, instructionChk, formChk, labelChk, jumpChk, beginChk, endChk, tailShort, topForm, stepBy}
 
 pub never-good : {r : Refusal} → Refused r ≡ Good → ⊥
 never-good e = let z : _≡_ {A = ℕ} 0 1 = cc in omega arith
@@ -50,6 +51,18 @@ pub record InstructionGood (s : State) (r : Rooms) (v : VisaInstruction) : Type 
 
 pub instruction-good : (s : State) (r : Rooms) (v : VisaInstruction) → instructionChk s r v ≡ Good → InstructionGood s r v
 instruction-good s r v e =
+    let a = unmet _ _ _ e in
+    let b = both-good _ _ (a .1) in
+    let c = unmet _ _ _ (b .1) in
+    record { outside = a .0; encodes = b .0; parcels = ltb-false _ _ (c .0) }
+
+pub record FormGood (s : State) (r : Rooms) (f : Form) (branch : Bool) : Type 0 where
+  pub outside : (branch && ltb 0 (s .depth)) ≡ false
+  pub encodes : formVerdict f ≡ Good
+  pub parcels : s .at + length (formParcels f) ≤ r .parcels
+
+pub form-good : (s : State) (r : Rooms) (f : Form) (branch : Bool) → formChk s r f branch ≡ Good → FormGood s r f branch
+form-good s r f branch e =
     let a = unmet _ _ _ e in
     let b = both-good _ _ (a .1) in
     let c = unmet _ _ _ (b .1) in

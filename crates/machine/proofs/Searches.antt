@@ -1,10 +1,13 @@
--- A search that has passed k places without an answer comes to what the search from place k on comes to.
+-- A comparison comes to what its first bytes come to, once the last ones are the same; a search that has passed k entries
+-- without an answer comes to what the search from entry k on comes to.
 use mathlib.Core.Path.{_≡_, refl, sym, ap, _∙_}
 use mathlib.Core.Bool.{Bool, true, false, _&&_}
 use mathlib.Core.List.{List}
-use Prim.Native.Nat.{ℕ, suc, _+_, _-_, _*_, _≤_, _<_}
+use Prim.Native.Nat.{ℕ, zero, suc, _+_, _-_, _*_, _≤_, _<_}
 use native.Mathlib.Omega.{arith}
+use native.Mathlib.Nat.{add-zero}
 use native.Mathlib.Numerals.{add-one}
+use lib.Dec.{eqb}
 use lib.ListN.{length, getD}
 use borrow.Author.Tests.{eq-eqb, ne-eqb}
 use Rattle.places.specs.Items.{sameFrom}
@@ -14,15 +17,31 @@ use Rattle.machine.specs.declared.Sought.the-variants.{At}
 peel : (n k : ℕ) → k < n → n - k ≡ suc (n - (k + 1))
 peel n k h = omega arith
 
-up : (a k : ℕ) → a + (k + 1) ≡ suc (a + k)
+up : (a k : ℕ) → a + suc k ≡ suc a + k
 up a k = omega arith
 
-module _ (ns : List ℕ) (n a b k : ℕ) (more : k < n) where
-  pub same-more : getD ns (a + k) 0 ≡ getD ns (b + k) 0 → sameFrom ns (n - k) (a + k) (b + k) ≡ sameFrom ns (n - (k + 1)) (a + (k + 1)) (b + (k + 1))
-  same-more e = rw (peel n k more, up a k, up b k, eq-eqb _ _ e)
+less : (k : ℕ) → 0 < k → k ≡ suc (k - 1)
+less k h = omega arith
 
-  pub same-less : (getD ns (a + k) 0 ≡ getD ns (b + k) 0 → ⊥) → sameFrom ns (n - k) (a + k) (b + k) ≡ false
-  same-less e = rw (peel n k more, ne-eqb _ _ e)
+-- the last byte of k + 1
+last-same : (ns : List ℕ) (k a b : ℕ) → getD ns (a + k) 0 ≡ getD ns (b + k) 0 → sameFrom ns (suc k) a b ≡ sameFrom ns k a b
+last-same ns zero a b e = rw (eq-eqb _ _ (rw (add-zero, add-zero) at e))
+last-same ns (suc k) a b e = ap (λ t. eqb (getD ns a 0) (getD ns b 0) && t) (last-same ns k (suc a) (suc b) (rw (up a k, up b k) at e))
+
+both-false : (t : Bool) {u : Bool} → u ≡ false → (t && u) ≡ false
+both-false true e = e
+both-false false e = refl
+
+last-other : (ns : List ℕ) (k a b : ℕ) → (getD ns (a + k) 0 ≡ getD ns (b + k) 0 → ⊥) → sameFrom ns (suc k) a b ≡ false
+last-other ns zero a b e = rw (ne-eqb _ _ (rw (add-zero, add-zero) at e))
+last-other ns (suc k) a b e = both-false (eqb (getD ns a 0) (getD ns b 0)) (last-other ns k (suc a) (suc b) (rw (up a k, up b k) at e))
+
+module _ (ns : List ℕ) (a b k : ℕ) (more : 0 < k) where
+  pub same-more : getD ns (a + (k - 1)) 0 ≡ getD ns (b + (k - 1)) 0 → sameFrom ns k a b ≡ sameFrom ns (k - 1) a b
+  same-more e = ap (λ n. sameFrom ns n a b) (less k more) ∙ last-same ns (k - 1) a b e
+
+  pub same-less : (getD ns (a + (k - 1)) 0 ≡ getD ns (b + (k - 1)) 0 → ⊥) → sameFrom ns k a b ≡ false
+  same-less e = ap (λ n. sameFrom ns n a b) (less k more) ∙ last-other ns (k - 1) a b e
 
 module _ (ns ls : List ℕ) (a b n k : ℕ) (more : k < n) where
   pub find-hit : entryIs ns ls a b k ≡ true → lookup ns ls a b (n - k) k ≡ At (getD ls (3 * k + 2) 0)

@@ -10,12 +10,13 @@ use Rattle.items.specs.declared.LoopMode.{LoopMode}
 use Rattle.items.specs.declared.Item.the-variants.{Instruction, Label, Jump, LoopBegin, LoopEnd}
 use Rattle.rows.specs.declared.Read.{Read}
 use Rattle.rows.specs.declared.Read.the-variants as read
+use Rattle.entries.specs.Entries.{entryOf}
 use Rattle.places.specs.declared.OpenLoop.{OpenLoop}
 use Rattle.places.specs.declared.Rooms.{Rooms}
 use Rattle.machine.specs.declared.State.{State}
 use Rattle.machine.specs.declared.Step.{Step}
 use Rattle.machine.specs.declared.Step.the-variants.{Stop}
-use Rattle.machine.specs.Machine.{Instructed, Labelled, Jumped, Begun, Ended, Stepped, instructionChk, labelChk, jumpChk, beginChk, endChk}
+use Rattle.machine.specs.Machine.{Instructed, Labelled, Jumped, Begun, Ended, Stepped, ReadFine, EntryFine, instructionChk, labelChk, jumpChk, beginChk, endChk}
 use Rattle.machine.proofs.Checks.{same-either}
 
 module _ {names : List ℕ} {r : Rooms} {x : Read} {row : ℕ} {s : State} {p l j : List ℕ} {top : OpenLoop} {y : Step} where
@@ -44,3 +45,12 @@ module _ {names : List ℕ} {r : Rooms} {x : Read} {row : ℕ} {s : State} {p l 
 
   pub step-refused : {why : Refusal} → x ≡ read.Refused why → y ≡ Stop why → Stepped names r x row s p l j top y p l j
   step-refused e h = rw e (record { answer = h; parcels = refl; labels = refl; jumps = refl })
+
+-- an entry is fine where what it was read from is
+pub entry-fine : (ns : List ℕ) (rd : Read) → ReadFine ns rd → EntryFine ns (entryOf rd)
+entry-fine ns (read.Item (Instruction v)) h = h
+entry-fine ns (read.Item (Label a b)) h = h
+entry-fine ns (read.Item (Jump c a b)) h = h
+entry-fine ns (read.Item (LoopBegin c m)) h = h
+entry-fine ns (read.Item LoopEnd) h = h
+entry-fine ns (read.Refused why) h = h

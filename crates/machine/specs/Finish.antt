@@ -18,10 +18,12 @@ use Rattle.encode.specs.declared.Form.{Form}
 use Rattle.encode.specs.Encoding.{formVerdict, jumpForm}
 use Rattle.rows.specs.declared.Read.{Read}
 use Rattle.rows.specs.declared.Read.the-variants as read
+use Rattle.entries.specs.declared.Entry.{Entry}
+use Rattle.entries.specs.Entries.{entryOf}
 use Rattle.places.specs.declared.OpenLoop.{OpenLoop}
 use Rattle.places.specs.declared.Rooms.{Rooms}
 use Rattle.places.specs.declared.Answer.the-variants as answer
-use Rattle.places.specs.Build.{when, orElse, Out, settled, zeroLoop}
+use Rattle.places.specs.Build.{when, orElse, ifGood, Out, settled, zeroLoop}
 use Rattle.machine.specs.declared.State.{State}
 use Rattle.machine.specs.declared.Sought.{Sought}
 use Rattle.machine.specs.declared.Sought.the-variants.{At, Nowhere}
@@ -65,6 +67,10 @@ module _ (ns ls : List ℕ) (n p : ℕ) where
   abbrev pub readAimed : Read → List ℕ → List ℕ
   readAimed (read.Item x) ps = itemAimed x ps
   readAimed (read.Refused r) ps = ps
+
+  -- the aim of a row's entry: that of whatever read has the entry
+  abbrev pub EntryAimed : Entry → List ℕ → Verdict → List ℕ → Type 0
+  EntryAimed e ps x ps′ = (rd : Read) → e ≡ entryOf rd → (x ≡ readChk rd) × (ps′ ≡ ifGood x (readAimed rd ps) ps)
 
 -- waiting jump k: its place, and what its row says
 abbrev pub waitChk : List ℕ → (ℕ → Read) → List ℕ → ℕ → List ℕ → ℕ → List ℕ → Verdict

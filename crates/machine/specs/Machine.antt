@@ -21,9 +21,12 @@ use Rattle.items.specs.declared.LoopMode.the-variants.{E2Active, F1Active}
 use Rattle.items.specs.declared.Item.{Item}
 use Rattle.items.specs.declared.Item.the-variants.{Instruction, Label, Jump, LoopBegin, LoopEnd}
 use Rattle.encode.specs.declared.Form.{Form}
-use Rattle.encode.specs.Encoding.{parcelsOf, verdictOf, formVerdict, loopForm}
+use Rattle.encode.specs.Encoding.{parcelsOf, verdictOf, formParcels, formVerdict, loopForm}
 use Rattle.rows.specs.declared.Read.{Read}
 use Rattle.rows.specs.declared.Read.the-variants as read
+use Rattle.entries.specs.declared.Entry.{Entry}
+use Rattle.entries.specs.declared.Entry.the-variants as entry
+use Rattle.entries.specs.Entries.{entryOf}
 use Rattle.places.specs.declared.OpenLoop.{OpenLoop}
 use Rattle.places.specs.declared.Rooms.{Rooms}
 use Rattle.places.specs.Items.{pick, sameFrom}
@@ -83,6 +86,15 @@ instructionChk s r v =
     (when (isBranch v && ltb 0 (s .depth)) BranchInLoop
     ∷ verdictOf v
     ∷ when (ltb (r .parcels) (s .at + length (parcelsOf v))) (NoRoomForParcels (r .parcels))
+    ∷ [])
+
+-- the same by the instruction's form, and whether it is a branch
+abbrev pub formChk : State → Rooms → Form → Bool → Verdict
+formChk s r f branch =
+    first
+    (when (branch && ltb 0 (s .depth)) BranchInLoop
+    ∷ formVerdict f
+    ∷ when (ltb (r .parcels) (s .at + length (formParcels f))) (NoRoomForParcels (r .parcels))
     ∷ [])
 
 abbrev pub labelChk : List ℕ → State → Rooms → List ℕ → ℕ → ℕ → Verdict
@@ -158,6 +170,10 @@ zeros3 = 0 ∷ 0 ∷ 0 ∷ []
 pub record Instructed (s : State) (r : Rooms) (v : VisaInstruction) (p : List ℕ) (x : Step) (p′ : List ℕ) : Type 0 where
   pub answer : x ≡ stepBy (instructionChk s r v) (On (advanced (length (parcelsOf v)) s))
   pub parcels : p′ ≡ ifGood (instructionChk s r v) (sets p (s .at) (parcelsOf v)) p
+
+pub record Formed (s : State) (r : Rooms) (f : Form) (branch : Bool) (p : List ℕ) (x : Step) (p′ : List ℕ) : Type 0 where
+  pub answer : x ≡ stepBy (formChk s r f branch) (On (advanced (length (formParcels f)) s))
+  pub parcels : p′ ≡ ifGood (formChk s r f branch) (sets p (s .at) (formParcels f)) p
 
 pub record Labelled (ns : List ℕ) (s : State) (r : Rooms) (ls : List ℕ) (a b : ℕ) (x : Step) (ls′ : List ℕ) : Type 0 where
   pub answer : x ≡ stepBy (labelChk ns s r ls a b) (On (labelNext s))
@@ -337,3 +353,16 @@ ItemFine ns LoopEnd = Unit {0}
 abbrev pub ReadFine : List ℕ → Read → Type 0
 ReadFine ns (read.Item x) = ItemFine ns x
 ReadFine ns (read.Refused why) = Unit {0}
+
+-- the same of a row's entry
+abbrev pub EntryFine : List ℕ → Entry → Type 0
+EntryFine ns (entry.Instruction f b t) = Unit {0}
+EntryFine ns (entry.Label a b) = a + b ≤ length ns
+EntryFine ns (entry.Jump c a b) = a + b ≤ length ns
+EntryFine ns (entry.LoopBegin c m) = CountFine c
+EntryFine ns entry.LoopEnd = Unit {0}
+EntryFine ns (entry.Refused why) = Unit {0}
+
+-- the step of a row's entry: that of whatever read has the entry
+abbrev pub Entered : List ℕ → Rooms → Entry → ℕ → State → List ℕ → List ℕ → List ℕ → OpenLoop → Step → List ℕ → List ℕ → List ℕ → Type 0
+Entered ns r e row s p l j top x p′ l′ j′ = (rd : Read) → e ≡ entryOf rd → Stepped ns r rd row s p l j top x p′ l′ j′

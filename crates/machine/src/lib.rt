@@ -12,18 +12,16 @@ ghost use lib.Dec.{ltb};
 ghost use lib.Seq.{sets};
 ghost use Rattle.refusals.specs.declared.Refusal.the-variants.{BranchInLoop, NoRoomForParcels};
 ghost use Rattle.places.specs.Build.{when, first, settled};
-ghost use Rattle.machine.specs.Machine.{advanced, endNext, tailShort, topForm, labelChk, jumpChk, beginChk, endChk, Instructed, Labelled, Jumped, Begun, Ended, Entries, TopFine, Within, Fine, ItemFine, ReadFine, Stepped};
+ghost use Rattle.machine.specs.Machine.{advanced, endNext, tailShort, topForm, labelChk, jumpChk, beginChk, endChk, Formed, Labelled, Jumped, Begun, Ended, Entries, TopFine, Within, Fine, EntryFine, Entered};
 ghost use Rattle.machine.specs.Fold.{zeroState};
 use encode::Form;
-use items::Item;
+use entries::Entry;
 use items::LoopCount;
 use items::LoopMode;
-use items::VisaInstruction;
 use places::OpenLoop;
 use places::Rooms;
 use refusals::Refusal;
 use refusals::Verdict;
-use rows::Read;
 
 // Where a build stands.
 pub struct State {
@@ -147,23 +145,21 @@ impl State {
         }
     }
 
-    // An instruction: its parcels stand at the next place.
-    pub fn instruction(self, rooms: Rooms, v: VisaInstruction, parcels: &mut [u16]) -> Step
+    // An instruction of this form: its parcels stand at the next place.
+    pub fn instruction(self, rooms: Rooms, form: Form, branch: bool, parcels: &mut [u16]) -> Step
         requires { ⌜ (Within self rooms) × (rooms .parcels ≤ length (now parcels)) × (rooms .parcels ≤ 16777216) ⌝ }
-        ensures { λ r. ⌜ Instructed self rooms v (now (parcels .entry)) r (now (parcels .exit)) ⌝ }
+        ensures { λ r. ⌜ Formed self rooms form branch (now (parcels .entry)) r (now (parcels .exit)) ⌝ }
     {
-        let encoded = encode::parcels(v);
-        let n = encoded.count;
-        let encodes = encoded.verdict;
-        let k = self.instruction_check(rooms, v.is_branch(), encodes, n);
+        let n = records::form_size(form);
+        let encodes = records::form_verdict(form);
+        let k = self.instruction_check(rooms, branch, encodes, n);
         match k {
             Verdict::Refused(r) => {
                 return Step::Stop(r);
             }
             Verdict::Good => {}
         }
-        let places = encoded.places;
-        writer::emit(parcels, self.at, places, n);
+        records::put_form(parcels, self.at, form);
         Step::On(self.advance(n))
     }
 
@@ -359,11 +355,12 @@ impl State {
         }
     }
 
-    // An item of a row: what its method makes of the state and the buffers, the innermost open loop having this record.
-    pub fn item(
+    // A row's entry: what its method makes of the state and the buffers, the innermost open loop having this record; or the
+    // row's refusal.
+    pub fn step(
         self,
         rooms: Rooms,
-        it: Item,
+        entry: Entry,
         row: u32,
         names: &[u8],
         parcels: &mut [u16],
@@ -371,40 +368,20 @@ impl State {
         jumps: &mut [u32],
         top: OpenLoop,
     ) -> Step
-        requires { ⌜ (Fine (now names) rooms self (now parcels) (now labels) (now jumps) top) × ItemFine (now names) it ⌝ }
-        ensures { λ r. ⌜ Stepped (now (names .entry)) rooms (Read.Item it) row self (now (parcels .entry)) (now (labels .entry)) (now (jumps .entry)) top r (now (parcels .exit)) (now (labels .exit)) (now (jumps .exit)) ⌝ }
+        requires { ⌜ (Fine (now names) rooms self (now parcels) (now labels) (now jumps) top) × EntryFine (now names) entry ⌝ }
+        ensures { λ r. ⌜ Entered (now (names .entry)) rooms entry row self (now (parcels .entry)) (now (labels .entry)) (now (jumps .entry)) top r (now (parcels .exit)) (now (labels .exit)) (now (jumps .exit)) ⌝ }
     {
-        match it {
-            Item::Instruction(v) => self.instruction(rooms, v, parcels),
-            Item::Label { start, length } => self.label(rooms, names, labels, start, length),
-            Item::Jump {
+        match entry {
+            Entry::Instruction(form, branch, _) => self.instruction(rooms, form, branch, parcels),
+            Entry::Label { start, length } => self.label(rooms, names, labels, start, length),
+            Entry::Jump {
                 condition: _,
                 start: _,
                 length: _,
             } => self.jump(rooms, row, parcels, jumps),
-            Item::LoopBegin { count, mode } => self.loop_begin(rooms, count, mode, parcels),
-            Item::LoopEnd => self.loop_end(top, parcels),
-        }
-    }
-
-    // What was read of a row: its item's step, or the row's refusal.
-    pub fn step(
-        self,
-        rooms: Rooms,
-        read: Read,
-        row: u32,
-        names: &[u8],
-        parcels: &mut [u16],
-        labels: &mut [u32],
-        jumps: &mut [u32],
-        top: OpenLoop,
-    ) -> Step
-        requires { ⌜ (Fine (now names) rooms self (now parcels) (now labels) (now jumps) top) × ReadFine (now names) read ⌝ }
-        ensures { λ r. ⌜ Stepped (now (names .entry)) rooms read row self (now (parcels .entry)) (now (labels .entry)) (now (jumps .entry)) top r (now (parcels .exit)) (now (labels .exit)) (now (jumps .exit)) ⌝ }
-    {
-        match read {
-            Read::Item(it) => self.item(rooms, it, row, names, parcels, labels, jumps, top),
-            Read::Refused(r) => Step::Stop(r),
+            Entry::LoopBegin { count, mode } => self.loop_begin(rooms, count, mode, parcels),
+            Entry::LoopEnd => self.loop_end(top, parcels),
+            Entry::Refused(r) => Step::Stop(r),
         }
     }
 }

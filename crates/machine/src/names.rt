@@ -7,17 +7,18 @@ ghost use Rattle.machine.specs.Machine.{entryIs, lookup, Entries};
 use crate::Sought;
 use crate::tables::wide;
 
-// Whether the `len` bytes of the names at `a` and at `b` are the same.
+// Whether the `len` bytes of the names at `a` and at `b` are the same, from the last one back: names of one program often share
+// their front.
 pub fn same(names: &[u8], a: usize, b: usize, len: usize) -> bool
     requires { ⌜ (a + len ≤ length (now names)) × (b + len ≤ length (now names)) ⌝ }
     ensures { λ r. ⌜ r ≡ sameFrom (now (names .entry)) len a b ⌝ }
 {
-    let mut k = 0;
-    while k < len {
+    let mut k = len;
+    while 0 < k {
+        k -= 1;
         if names[a + k] != names[b + k] {
             return false;
         }
-        k += 1;
     }
     true
 }

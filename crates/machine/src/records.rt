@@ -1,6 +1,9 @@
 // Loop records as numbers, and the words that waited as zeros.
 ghost use mathlib.Core.Path.{_≡_};
-ghost use Rattle.encode.specs.Encoding.{formVerdict};
+ghost use Prim.Native.Nat.{_+_, _≤_};
+ghost use lib.ListN.{length};
+ghost use lib.Seq.{sets};
+ghost use Rattle.encode.specs.Encoding.{formParcels, formVerdict};
 ghost use Rattle.places.specs.Build.{settled};
 ghost use Rattle.machine.specs.Machine.{countNumber, countFrom, modeNumber, modeFrom};
 use encode::Form;
@@ -59,6 +62,62 @@ pub fn form_verdict(form: Form) -> Verdict
         Form::Word(_) => Verdict::Good,
         Form::Leaf => Verdict::Good,
         Form::Refused(r) => Verdict::Refused(r),
+    }
+}
+
+// How many parcels a form is.
+pub fn form_size(form: Form) -> usize
+    ensures { λ r. ⌜ (r ≡ length (formParcels form)) × (r ≤ 6) ⌝ }
+{
+    match form {
+        Form::Short(_) => 1,
+        Form::Pair(_) => 2,
+        Form::Word(_) => 3,
+        Form::Leaf => 6,
+        Form::Refused(_) => 0,
+    }
+}
+
+// The parcels of a form stand at `at`. The answer is the place past them.
+pub fn put_form(parcels: &mut [u16], at: usize, form: Form) -> usize
+    requires { ⌜ at + length (formParcels form) ≤ length (now parcels) ⌝ }
+    ensures { λ r. ⌜ (r ≡ at + length (formParcels form)) × (now (parcels .exit) ≡ sets (now (parcels .entry)) at (formParcels form)) ⌝ }
+{
+    match form {
+        Form::Short(w) => writer::emit(parcels, at, [(w % 0x1_0000) as u16, 0, 0, 0, 0, 0], 1),
+        Form::Pair(w) => writer::emit(
+            parcels,
+            at,
+            [
+                (w / 0x1_0000 % 0x1_0000) as u16,
+                (w % 0x1_0000) as u16,
+                0,
+                0,
+                0,
+                0,
+            ],
+            2,
+        ),
+        Form::Word(w) => writer::emit(
+            parcels,
+            at,
+            [
+                (w / 0x1_0000_0000 % 0x1_0000) as u16,
+                (w / 0x1_0000 % 0x1_0000) as u16,
+                (w % 0x1_0000) as u16,
+                0,
+                0,
+                0,
+            ],
+            3,
+        ),
+        Form::Leaf => writer::emit(
+            parcels,
+            at,
+            [0x4dfe, 0x0e3f, 0x083f, 0x343f, 0x1901, 0x0001],
+            6,
+        ),
+        Form::Refused(_) => at,
     }
 }
 

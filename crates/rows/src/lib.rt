@@ -1,7 +1,7 @@
 // Item rows: seventeen numbers, read as an item or a refusal.
 ghost use mathlib.Core.Path.{_≡_};
 ghost use Prim.Native.Nat.{_+_, _*_, _<_, _≤_};
-ghost use lib.ListN.{length, take, drop};
+ghost use lib.ListN.{length};
 ghost use Rattle.rows.specs.Fields.{conditionOf, directionOf, updateOf, aluOpOf, modeOf, countOf, scalarOf, transferOf, otherOf, instructionOf};
 ghost use Rattle.rows.specs.Rows.{wellFormed, multiOf, singleOf, computeOf, besideOf, dataAccessOf, memoryAccessOf, computeItem, dualItem, memoryItem, itemOf, readOf};
 use computes::Made;
@@ -411,14 +411,4 @@ pub fn read_row(row: &[u32], names: usize) -> Read
         Verdict::Good => item_of(row),
         Verdict::Refused(refusal) => Read::Refused(refusal),
     }
-}
-
-// What row i of a slice of rows says.
-pub fn read_at(rows: &[u32], i: usize, names: usize) -> Read
-    requires { ⌜ (i < 4194304) × (i * 17 + 17 ≤ length (now rows)) ⌝ }
-    ensures { λ r. ⌜ r ≡ readOf (take 17 (drop (i * 17) (now (rows .entry)))) names ⌝ }
-{
-    let a = i * 17;
-    let e = a + 17;
-    read_row(&rows[a..e], names)
 }

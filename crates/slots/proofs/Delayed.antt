@@ -1,5 +1,5 @@
--- Any instruction but a `JumpRelative` (13) and a `CJump` (14), which are branches, has no slots.
-use mathlib.Core.Path.{_≡_, refl, sym}
+-- Any instruction but a `JumpRelative` and a `CJump`, which are branches, has no slots; and what an entry says of its item.
+use mathlib.Core.Path.{_≡_, refl, sym, ap, _∙_}
 use mathlib.Core.Bool.{Bool, true, false, not}
 use mathlib.Core.Logic.{_⊎_, inl, inr, ⊎-elim}
 use mathlib.Core.List.{List, [], _∷_}
@@ -7,18 +7,21 @@ use Prim.Native.Nat.{ℕ}
 use native.Mathlib.Omega.{arith}
 use denote.Enum.Declared.{tagOf}
 use types.Run.{OneOf, miss}
-use Rattle.items.proofs.VisaInstruction.{the-type}
-use Rattle.items.proofs.Item.{the-type as item-type}
-use Rattle.items.specs.Kinds.{isBranch}
+use Rattle.entries.proofs.Entry.{the-type}
+use Rattle.items.specs.Kinds.{isBranch, hasSlots}
 use Rattle.items.specs.declared.VisaInstruction.{VisaInstruction}
 use Rattle.items.specs.declared.VisaInstruction.the-variants.{Scalar, Transfer, LoadImmediate, ModifyIndex, LoadDmPostModify, StoreDmPostModify, LoadDmPreModify, StoreDmPreModify, LoadDmOffset, StoreDmOffset, IntegerSubOne, IntegerPass, IntegerCompareUnsigned, JumpRelative, CJump, PushImmediate, LeafReturn, Compute, DualMove, MemoryMove, StoreImmediate, BitSetMode1, BitClearMode1, Nop, WideNop}
 use Rattle.items.specs.declared.Item.{Item}
 use Rattle.items.specs.declared.Item.the-variants.{Instruction, Label, Jump, LoopBegin, LoopEnd}
 use Rattle.rows.specs.declared.Read.{Read}
 use Rattle.rows.specs.declared.Read.the-variants as read
-use Rattle.slots.specs.Slots.{hasSlots, instructionThat, opens, fills, rowThat}
+use Rattle.encode.specs.declared.Form.{Form}
+use Rattle.entries.specs.declared.Entry.{Entry}
+use Rattle.entries.specs.declared.Entry.the-variants as entry
+use Rattle.entries.specs.Entries.{itemEntry, entryOf}
+use Rattle.slots.specs.Slots.{instructionThat, opens, fills, rowThat}
 
-jump-or-none : (v : VisaInstruction) → ((isBranch v ≡ true) × OneOf (13 ∷ 14 ∷ []) (tagOf the-type v)) ⊎ (hasSlots v ≡ false)
+jump-or-none : (v : VisaInstruction) → (isBranch v ≡ true) ⊎ (hasSlots v ≡ false)
 jump-or-none (Scalar i) = inr refl
 jump-or-none (Transfer d s) = inr refl
 jump-or-none (LoadImmediate d v) = inr refl
@@ -32,8 +35,8 @@ jump-or-none (StoreDmOffset r i z) = inr refl
 jump-or-none (IntegerSubOne d s) = inr refl
 jump-or-none (IntegerPass d s) = inr refl
 jump-or-none (IntegerCompareUnsigned l r) = inr refl
-jump-or-none (JumpRelative c z d) = inl (refl, inl refl)
-jump-or-none (CJump t) = inl (refl, inr refl)
+jump-or-none (JumpRelative c z d) = inl refl
+jump-or-none (CJump t) = inl refl
 jump-or-none (PushImmediate v) = inr refl
 jump-or-none LeafReturn = inr refl
 jump-or-none (Compute k) = inr refl
@@ -45,20 +48,9 @@ jump-or-none (BitClearMode1 v) = inr refl
 jump-or-none Nop = inr refl
 jump-or-none WideNop = inr refl
 
--- where a match has passed both by
-abbrev others : List ℕ
-others = 0 ∷ 1 ∷ 2 ∷ 3 ∷ 4 ∷ 5 ∷ 6 ∷ 7 ∷ 8 ∷ 9 ∷ 10 ∷ 11 ∷ 12 ∷ 15 ∷ 16 ∷ 17 ∷ 18 ∷ 19 ∷ 20 ∷ 21 ∷ 22 ∷ 23 ∷ 24 ∷ []
-
-apart : (t : ℕ) → OneOf (13 ∷ 14 ∷ []) t → OneOf others t → ⊥
-apart t (inl e) h = miss others 13 tt (rw e at h)
-apart t (inr e) h = miss others 14 tt (rw e at h)
-
-pub others-none : (v : VisaInstruction) → OneOf others (tagOf the-type v) → false ≡ hasSlots v
-others-none v h = ⊎-elim (λ j. absurd (apart (tagOf the-type v) (j .1) h)) (λ e. sym e) (jump-or-none v)
-
 -- what stands in a slot has none
 no-branch : (v : VisaInstruction) → not (isBranch v) ≡ true → hasSlots v ≡ false
-no-branch v h = ⊎-elim (λ j. let q = rw (j .0) at h in let z : _≡_ {A = ℕ} 0 1 = cc in absurd (omega arith)) (λ e. e) (jump-or-none v)
+no-branch v h = ⊎-elim (λ j. let q = rw j at h in let z : _≡_ {A = ℕ} 0 1 = cc in absurd (omega arith)) (λ e. e) (jump-or-none v)
 
 pub fills-opens : (x : Read) → rowThat fills x ≡ true → rowThat opens x ≡ false
 fills-opens (read.Item (Instruction v)) h = no-branch v h
@@ -68,10 +60,44 @@ fills-opens (read.Item (LoopBegin c m)) h = refl
 fills-opens (read.Item LoopEnd) h = refl
 fills-opens (read.Refused r) h = refl
 
+-- ---- by the entry
+-- the item that has an instruction's entry
+has : (x : Item) {f : Form} {b s : Bool} → entry.Instruction f b s ≡ itemEntry x → (s ≡ opens x) × (not b ≡ fills x)
+has (Instruction v) {f} {b} {s} e = let p : s ≡ hasSlots v = cc in let q : b ≡ isBranch v = cc in (p, ap not q)
+has (Label a b) e = let z : _≡_ {A = ℕ} 0 1 = cc in absurd (omega arith)
+has (Jump c a b) e = let z : _≡_ {A = ℕ} 0 1 = cc in absurd (omega arith)
+has (LoopBegin c m) e = let z : _≡_ {A = ℕ} 0 1 = cc in absurd (omega arith)
+has LoopEnd e = let z : _≡_ {A = ℕ} 0 1 = cc in absurd (omega arith)
+
+pub instruction-has : (x : Item) {e : Entry} {f : Form} {b s : Bool} → e ≡ entry.Instruction f b s → e ≡ itemEntry x → (s ≡ opens x) × (not b ≡ fills x)
+instruction-has x q e = has x (sym q ∙ e)
+
 -- where a match has passed an instruction by
-pub no-instruction : (t : VisaInstruction → Bool) (x : Item) → OneOf (1 ∷ 2 ∷ 3 ∷ 4 ∷ []) (tagOf item-type x) → false ≡ instructionThat t x
-no-instruction t (Instruction v) h = absurd (miss (1 ∷ 2 ∷ 3 ∷ 4 ∷ []) 0 tt h)
-no-instruction t (Label a b) h = refl
-no-instruction t (Jump c a b) h = refl
-no-instruction t (LoopBegin c m) h = refl
-no-instruction t LoopEnd h = refl
+abbrev others : List ℕ
+others = 1 ∷ 2 ∷ 3 ∷ 4 ∷ 5 ∷ []
+
+none : (t : VisaInstruction → Bool) (x : Item) → OneOf others (tagOf the-type (itemEntry x)) → false ≡ instructionThat t x
+none t (Instruction v) h = absurd (miss others 0 tt h)
+none t (Label a b) h = refl
+none t (Jump c a b) h = refl
+none t (LoopBegin c m) h = refl
+none t LoopEnd h = refl
+
+pub no-instruction : (t : VisaInstruction → Bool) (x : Item) {e : Entry} → OneOf others (tagOf the-type e) → e ≡ itemEntry x → false ≡ instructionThat t x
+no-instruction t x h e = none t x (rw e at h)
+
+-- where a match has passed a refusal by
+abbrev items : List ℕ
+items = 0 ∷ 1 ∷ 2 ∷ 3 ∷ 4 ∷ []
+
+pub record Says (rd : Read) (e : Entry) : Type 0 where
+  pub item : Item
+  pub is : rd ≡ read.Item item
+  pub has-entry : e ≡ itemEntry item
+
+an-item : (rd : Read) → OneOf items (tagOf the-type (entryOf rd)) → Says rd (entryOf rd)
+an-item (read.Item x) h = record { item = x; is = refl; has-entry = refl }
+an-item (read.Refused r) h = absurd (miss items 5 tt h)
+
+pub says : (rd : Read) {e : Entry} → OneOf items (tagOf the-type e) → e ≡ entryOf rd → Says rd e
+says rd h e = rw e (an-item rd (rw e at h))

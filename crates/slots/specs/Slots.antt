@@ -6,9 +6,8 @@ use lib.Dec.{ltb}
 use Rattle.refusals.specs.declared.Refusal.the-variants.{BrokenSlot}
 use Rattle.refusals.specs.declared.Verdict.{Verdict}
 use Rattle.refusals.specs.declared.Verdict.the-variants.{Good}
-use Rattle.items.specs.Kinds.{isBranch}
+use Rattle.items.specs.Kinds.{isBranch, hasSlots}
 use Rattle.items.specs.declared.VisaInstruction.{VisaInstruction}
-use Rattle.items.specs.declared.VisaInstruction.the-variants.{Scalar, Transfer, LoadImmediate, ModifyIndex, LoadDmPostModify, StoreDmPostModify, LoadDmPreModify, StoreDmPreModify, LoadDmOffset, StoreDmOffset, IntegerSubOne, IntegerPass, IntegerCompareUnsigned, JumpRelative, CJump, PushImmediate, LeafReturn, Compute, DualMove, MemoryMove, StoreImmediate, BitSetMode1, BitClearMode1, Nop, WideNop}
 use Rattle.items.specs.declared.Item.{Item}
 use Rattle.items.specs.declared.Item.the-variants.{Instruction, Label, Jump, LoopBegin, LoopEnd}
 use Rattle.rows.specs.declared.Read.{Read}
@@ -16,34 +15,6 @@ use Rattle.rows.specs.declared.Read.the-variants as read
 use Rattle.places.specs.Items.{rowAt, rowsIn}
 use Rattle.places.specs.Build.{when, orElse, firstOf}
 use Rattle.counts.specs.Counts.{listVerdict}
-
--- "each delayed `JumpRelative` and each `CJump`"
-abbrev pub hasSlots : VisaInstruction → Bool
-hasSlots (Scalar i) = false
-hasSlots (Transfer d s) = false
-hasSlots (LoadImmediate d v) = false
-hasSlots (ModifyIndex i z) = false
-hasSlots (LoadDmPostModify r i m) = false
-hasSlots (StoreDmPostModify r i m) = false
-hasSlots (LoadDmPreModify r i m) = false
-hasSlots (StoreDmPreModify r i m) = false
-hasSlots (LoadDmOffset r i z) = false
-hasSlots (StoreDmOffset r i z) = false
-hasSlots (IntegerSubOne d s) = false
-hasSlots (IntegerPass d s) = false
-hasSlots (IntegerCompareUnsigned l r) = false
-hasSlots (JumpRelative c z d) = d
-hasSlots (CJump t) = true
-hasSlots (PushImmediate v) = false
-hasSlots LeafReturn = false
-hasSlots (Compute k) = false
-hasSlots (DualMove k dm pm) = false
-hasSlots (MemoryMove k a) = false
-hasSlots (StoreImmediate i m v) = false
-hasSlots (BitSetMode1 v) = false
-hasSlots (BitClearMode1 v) = false
-hasSlots Nop = false
-hasSlots WideNop = false
 
 -- an instruction item that passes the test
 abbrev pub instructionThat : (VisaInstruction → Bool) → Item → Bool

@@ -1,12 +1,10 @@
 // The slot check: what stands after each delayed jump.
 ghost use mathlib.Core.Path.{_≡_};
-ghost use Rattle.slots.specs.Slots.{hasSlots, opens, fills, slotCheckOf};
-ghost use Rattle.slots.specs.Watch.{after, ending};
-use items::Item;
-use items::VisaInstruction;
+ghost use Rattle.slots.specs.Slots.{opens, fills, slotCheckOf};
+ghost use Rattle.slots.specs.Watch.{ending, EntryThat, EntryAfter};
+use entries::Entry;
 use refusals::Refusal;
 use refusals::Verdict;
-use rows::Read;
 
 // What the items so far leave open: nothing, both slots or the second slot of the jump in a row, or the first jump whose
 // slots are broken.
@@ -17,61 +15,46 @@ pub enum Watch {
     Broken(u32),
 }
 
-// Whether it is a delayed `JumpRelative` or a `CJump`.
-fn has_slots(v: VisaInstruction) -> bool
-    ensures { λ r. ⌜ r ≡ hasSlots v ⌝ }
-{
-    match v {
-        VisaInstruction::JumpRelative {
-            condition: _,
-            offset: _,
-            delayed,
-        } => delayed,
-        VisaInstruction::CJump { target: _ } => true,
-        _ => false,
-    }
-}
-
 // Whether an item has slots after it.
-fn opens(x: Item) -> bool
-    ensures { λ r. ⌜ r ≡ opens x ⌝ }
+fn opens(entry: Entry) -> bool
+    ensures { λ r. ⌜ EntryThat opens entry r ⌝ }
 {
-    match x {
-        Item::Instruction(v) => has_slots(v),
+    match entry {
+        Entry::Instruction(_, _, slots) => slots,
         _ => false,
     }
 }
 
 // Whether an item may stand in a slot.
-fn fills(x: Item) -> bool
-    ensures { λ r. ⌜ r ≡ fills x ⌝ }
+fn fills(entry: Entry) -> bool
+    ensures { λ r. ⌜ EntryThat fills entry r ⌝ }
 {
-    match x {
-        Item::Instruction(v) => !v.is_branch(),
+    match entry {
+        Entry::Instruction(_, branch, _) => !branch,
         _ => false,
     }
 }
 
 impl Watch {
     // What the item of a row makes of it.
-    fn after(self, x: Item, row: u32) -> Watch
-        ensures { λ r. ⌜ r ≡ after self x row ⌝ }
+    fn after(self, entry: Entry, row: u32) -> Watch
+        ensures { λ r. ⌜ EntryAfter self entry row r ⌝ }
     {
         match self {
             Watch::Free => {
-                if opens(x) {
+                if opens(entry) {
                     return Watch::Both(row);
                 }
                 Watch::Free
             }
             Watch::Both(jump) => {
-                if fills(x) {
+                if fills(entry) {
                     return Watch::Second(jump);
                 }
                 Watch::Broken(jump)
             }
             Watch::Second(jump) => {
-                if fills(x) {
+                if fills(entry) {
                     return Watch::Free;
                 }
                 Watch::Broken(jump)
@@ -105,13 +88,13 @@ pub fn slot_check(rows: &[u32], names: &[u8]) -> Verdict
     let mut watch = Watch::Free;
     let mut i = 0;
     while i < n {
-        let read = rows::read_at(rows, i, names.len());
-        match read {
-            Read::Item(x) => {
-                watch = watch.after(x, i as u32);
-            }
-            Read::Refused(r) => {
+        let entry = entries::entry_at(rows, i, names.len());
+        match entry {
+            Entry::Refused(r) => {
                 return Verdict::Refused(r);
+            }
+            _ => {
+                watch = watch.after(entry, i as u32);
             }
         }
         i += 1;

@@ -185,8 +185,8 @@ pub fn row(
 {
     let at = t.row;
     let state = t.state;
-    let read = rows::read_at(rows, at, names.len());
-    let step = state.step(rooms, read, at as u32, names, parcels, labels, jumps, top);
+    let entry = entries::entry_at(rows, at, names.len());
+    let step = state.step(rooms, entry, at as u32, names, parcels, labels, jumps, top);
     after(t, step, top, lent)
 }
 

@@ -1,7 +1,9 @@
--- The tests of the code are those of the definition, and the cases of what the row says.
-use Rattle.instruction.specs.Instruction.{instructionOf}
+-- The tests of the code are those of the definition, and the entry is the row's.
+use denote.Ref.{now}
 use mathlib.Core.Path.{sym, _∙_}
 use borrow.Author.Tests.{eq-eqb, ne-eqb}
+use Rattle.rows.specs.Rows.{readOf}
+use Rattle.instruction.specs.Instruction.{instructionOf}
 use borrow.Author.Needs.{needs}
 use Rattle.instruction.proofs.instruction.Statement.{statement}
 use Rattle.instruction.proofs.instruction.Tie as tie
@@ -26,28 +28,15 @@ returns-2 : tie.Need-returns-2
 unfolding instructionOf
 returns-2 c = rw (eq-eqb _ _ (c .before .before .before .before .if1 .left), sym (c .before .before .is-mark .ensures) ∙ c .before .if2 .taken) (c .refused2 .ensures)
 
-read-row-requires : tie.Need-read-row-requires
-read-row-requires c κs = search needs
+row-entry-requires : tie.Need-row-entry-requires
+row-entry-requires c κs = search needs
 
-enum-known-item : tie.Need-enum-known-item
-enum-known-item c = search needs
-
-item-parcels-requires : tie.Need-item-parcels-requires
-item-parcels-requires c κs = search needs
-
-enum-known-refusal : tie.Need-enum-known-refusal
-enum-known-refusal c = search needs
-
-refused-requires-3 : tie.Need-refused-requires-3
-refused-requires-3 c κs = search needs
+entry-parcels-requires : tie.Need-entry-parcels-requires
+entry-parcels-requires c κs = search needs
 
 returns-3 : tie.Need-returns-3
 unfolding instructionOf
-returns-3 c = rw (eq-eqb _ _ (c .before .before .before .before .before .before .before .before .if1 .left), sym (c .before .before .before .before .before .before .is-mark .ensures) ∙ c .before .before .before .before .before .if2 .left, sym (c .before .before .before .before .read-row .ensures) ∙ c .before .before .item .given .1) (c .item-parcels .ensures)
-
-returns-4 : tie.Need-returns-4
-unfolding instructionOf
-returns-4 c = rw (eq-eqb _ _ (c .before .before .before .before .before .before .before .before .if1 .left), sym (c .before .before .before .before .before .before .is-mark .ensures) ∙ c .before .before .before .before .before .if2 .left, sym (c .before .before .before .before .read-row .ensures) ∙ c .before .before .refusal .given .1) (c .refused3 .ensures)
+returns-3 c = rw (eq-eqb _ _ (c .before .before .before .before .before .if1 .left), sym (c .before .before .before .is-mark .ensures) ∙ c .before .before .if2 .left) (c .entry-parcels .ensures (readOf (now (c .before .before .before .before .before .before .before .args .row)) 0) (c .before .row-entry .ensures))
 
 pub instruction-spec : {M : Type 1} → statement M
 instruction-spec =
@@ -59,10 +48,6 @@ instruction-spec =
     is-mark-requires
     refused-requires-2
     returns-2
-    read-row-requires
-    enum-known-item
-    item-parcels-requires
-    enum-known-refusal
-    refused-requires-3
-    returns-3
-    returns-4)
+    row-entry-requires
+    entry-parcels-requires
+    returns-3)

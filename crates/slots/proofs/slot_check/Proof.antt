@@ -1,11 +1,14 @@
 -- What is kept in mind after i rows is `Watching`'s.
 use mathlib.Core.Path.{sym, _∙_}
 use Prim.Native.Nat.{_-_}
+use denote.Ref.{now}
 use borrow.Author.Count.{below-none}
 use borrow.Author.Tests.{not-false}
 use borrow.Author.Needs.{needs}
 use Rattle.rows.proofs.Limit.{rows-few}
+use Rattle.entries.proofs.Back.{back}
 use Rattle.places.specs.Items.{rowAt}
+use Rattle.slots.proofs.Delayed.{says}
 use Rattle.slots.proofs.Watching.{Watching, watching-next, watching-stop, watching-end}
 use Rattle.slots.proofs.slot_check.Statement.{statement}
 use Rattle.slots.proofs.slot_check.Tie as tie
@@ -25,23 +28,20 @@ returns c = rw (← c .before .well-formed .ensures, c .if1 .taken)
 loop-holds : tie.Need-loop-holds Inv-loop μ-loop
 loop-holds c = record { few = rows-few _ (sym (c .before .well-formed .ensures) ∙ not-false _ (c .if1 .left)); within = search needs; good = below-none _; seen = below-none _ }
 
-read-at-requires : tie.Need-read-at-requires Inv-loop μ-loop
-read-at-requires c κs = search needs
+entry-at-requires : tie.Need-entry-at-requires Inv-loop μ-loop
+entry-at-requires c κs = search needs
 
-enum-known-read : tie.Need-enum-known-read Inv-loop μ-loop
-enum-known-read c = search needs
+enum-known-entry : tie.Need-enum-known-entry Inv-loop μ-loop
+enum-known-entry c = search needs
+
+returns-2 : tie.Need-returns-2 Inv-loop μ-loop
+returns-2 c = rw (← c .before .before .before .before .before .before .before .well-formed .ensures, not-false (c .before .before .before .before .before .before .before .well-formed .result) (c .before .before .before .before .before .before .if1 .left), watching-stop _ _ (c .before .before .before .before .before .loop .inv) (c .before .before .before .before .loop-test .taken) {r = c .before .entry .given .0 .0} (back (rowAt (now (c .before .before .before .before .before .before .before .before .before .before .args .rows)) (now (c .before .before .before .before .before .before .before .before .before .before .args .names)) (c .before .before .before .before .before .loop .i)) (c .before .before .before .entry-at .ensures) (c .before .entry .given .1)))
 
 cast-after : tie.Need-cast-after Inv-loop μ-loop
 cast-after c = search needs
 
 after-requires : tie.Need-after-requires Inv-loop μ-loop
 after-requires c κs = search needs
-
-enum-known-read-2 : tie.Need-enum-known-read-2 Inv-loop μ-loop
-enum-known-read-2 c = search needs
-
-returns-2 : tie.Need-returns-2 Inv-loop μ-loop
-returns-2 c = rw (← c .before .before .before .before .before .before .before .well-formed .ensures, not-false (c .before .before .before .before .before .before .before .well-formed .result) (c .before .before .before .before .before .before .if1 .left), watching-stop _ _ (c .before .before .before .before .before .loop .inv) (c .before .before .before .before .loop-test .taken) {r = c .before .read2 .given .0 .0} (sym (c .before .before .before .read-at .ensures) ∙ c .before .read2 .given .1))
 
 add-i : tie.Need-add-i Inv-loop μ-loop
 add-i c = search needs
@@ -50,7 +50,7 @@ loop-less : tie.Need-loop-less Inv-loop μ-loop
 loop-less c = search needs
 
 loop-again : tie.Need-loop-again Inv-loop μ-loop
-loop-again c = rw (c .after .ensures) (watching-next _ _ (c .before .before .before .before .before .before .loop .inv) (c .before .before .before .before .before .loop-test .taken) (sym (c .before .before .before .before .read-at .ensures) ∙ c .before .before .read .given .1))
+loop-again c = let s = says (rowAt (now (c .before .before .before .before .before .before .before .before .before .args .rows)) (now (c .before .before .before .before .before .before .before .before .before .args .names)) (c .before .before .before .before .loop .i)) (c .before .match .keys2) (c .before .before .entry-at .ensures) in rw (c .after .ensures (s .item) (s .has-entry)) (watching-next _ _ (c .before .before .before .before .loop .inv) (c .before .before .before .loop-test .taken) (s .is))
 
 ending-requires : tie.Need-ending-requires Inv-loop μ-loop
 ending-requires c κs = search needs
@@ -67,12 +67,11 @@ slot-check-spec =
     well-formed-requires
     returns
     loop-holds
-    read-at-requires
-    enum-known-read
+    entry-at-requires
+    enum-known-entry
+    returns-2
     cast-after
     after-requires
-    enum-known-read-2
-    returns-2
     add-i
     loop-less
     loop-again

@@ -8,6 +8,7 @@ use borrow.Author.Needs.{needs}
 use Rattle.places.specs.Items.{rowAt}
 use Rattle.machine.specs.Finish.{waitChk, waited}
 use Rattle.machine.specs.Scan.{Going, going-start, going-next, going-stop, going-end}
+use Rattle.machine.proofs.Steps.{entry-fine}
 use Rattle.joins.proofs.Fine.{row-fine}
 use Rattle.build.proofs.jumps.aim_all.Statement.{statement}
 use Rattle.build.proofs.jumps.aim_all.Tie as tie
@@ -48,11 +49,11 @@ shared-slice-read-wide-2 c = search needs
 wide-requires-2 : tie.Need-wide-requires-2 Inv-loop μ-loop
 wide-requires-2 c κs = search needs
 
-read-at-requires : tie.Need-read-at-requires Inv-loop μ-loop
-read-at-requires c κs = omega (arith, c .wide2 .ensures, c .before .before .before .before .before .before .before .before .before .before .before .pre .rows-in (c .before .before .before .before .before .loop .k) (c .before .before .before .before .loop-test .taken), c .before .before .before .before .before .before .before .before .before .before .before .pre .rows-few)
+entry-at-requires : tie.Need-entry-at-requires Inv-loop μ-loop
+entry-at-requires c κs = omega (arith, c .wide2 .ensures, c .before .before .before .before .before .before .before .before .before .before .before .pre .rows-in (c .before .before .before .before .before .loop .k) (c .before .before .before .before .loop-test .taken), c .before .before .before .before .before .before .before .before .before .before .before .pre .rows-few)
 
-aim-row-requires : tie.Need-aim-row-requires Inv-loop μ-loop
-aim-row-requires c κs = let f = c .before .before .before .before .before .before .before .before .before .before .before .before .before .pre in let k = c .before .before .before .before .before .before .before .loop .k in let t = c .before .before .before .before .before .before .loop-test .taken in (record { labels-in = f .labels-in; entries = f .entries; jump-in = omega (arith, c .before .before .before .before .wide .ensures, f .places-in k t, c .before .before .before .before .before .before .before .loop .inv .1); jump-few = omega (arith, c .before .before .before .before .wide .ensures, f .places-few k t) }, rw (c .before .read-at .ensures) (row-fine (now (c .before .before .before .before .before .before .before .before .before .before .before .before .before .args .rows)) (now (c .before .before .before .before .before .before .before .before .before .before .before .before .before .args .names)) (c .before .before .wide2 .result)))
+aim-entry-requires : tie.Need-aim-entry-requires Inv-loop μ-loop
+aim-entry-requires c κs = let f = c .before .before .before .before .before .before .before .before .before .before .before .before .before .pre in let k = c .before .before .before .before .before .before .before .loop .k in let t = c .before .before .before .before .before .before .loop-test .taken in (record { labels-in = f .labels-in; entries = f .entries; jump-in = omega (arith, c .before .before .before .before .wide .ensures, f .places-in k t, c .before .before .before .before .before .before .before .loop .inv .1); jump-few = omega (arith, c .before .before .before .before .wide .ensures, f .places-few k t) }, let a = c .before .before .before .before .before .before .before .before .before .before .before .before .before .args in rw (c .before .entry-at .ensures) (entry-fine (now (a .names)) (rowAt (now (a .rows)) (now (a .names)) (c .before .before .wide2 .result)) (row-fine (now (a .rows)) (now (a .names)) (c .before .before .wide2 .result))))
 
 enum-known-one : tie.Need-enum-known-one Inv-loop μ-loop
 enum-known-one c = search needs
@@ -61,7 +62,7 @@ same-length : tie.Need-same-length Inv-loop μ-loop
 same-length c = search needs
 
 returns : tie.Need-returns Inv-loop μ-loop
-returns c = going-stop _ _ _ (c .before .before .before .before .before .before .before .before .before .before .before .before .before .loop .inv .0) (c .before .before .before .before .before .before .before .before .before .before .before .before .loop-test .taken) (rw (← c .before .before .before .before .before .before .before .before .before .before .wide .ensures, ← c .before .before .before .before .before .before .before .before .wide2 .ensures, ← c .before .before .before .before .before .before .before .read-at .ensures) (sym (c .before .before .before .before .before .aim-row .ensures .0) ∙ c .before .one .given .1)) (rw (c .before .one .given .1) at (c .before .before .before .before .before .aim-row .ensures .1))
+returns c = going-stop _ _ _ (c .before .before .before .before .before .before .before .before .before .before .before .before .before .loop .inv .0) (c .before .before .before .before .before .before .before .before .before .before .before .before .loop-test .taken) (rw (← c .before .before .before .before .before .before .before .before .before .before .wide .ensures, ← c .before .before .before .before .before .before .before .before .wide2 .ensures) (sym (c .before .before .before .before .before .aim-entry .ensures (rowAt (now (c .before .before .before .before .before .before .before .before .before .before .before .before .before .before .before .before .before .before .before .args .rows)) (now (c .before .before .before .before .before .before .before .before .before .before .before .before .before .before .before .before .before .before .before .args .names)) (c .before .before .before .before .before .before .before .before .wide2 .result)) (c .before .before .before .before .before .before .before .entry-at .ensures) .0) ∙ c .before .one .given .1)) (rw (c .before .one .given .1) at (c .before .before .before .before .before .aim-entry .ensures (rowAt (now (c .before .before .before .before .before .before .before .before .before .before .before .before .before .before .before .before .before .before .before .args .rows)) (now (c .before .before .before .before .before .before .before .before .before .before .before .before .before .before .before .before .before .before .before .args .names)) (c .before .before .before .before .before .before .before .before .wide2 .result)) (c .before .before .before .before .before .before .before .entry-at .ensures) .1))
 
 enum-told : tie.Need-enum-told Inv-loop μ-loop
 enum-told c = search needs
@@ -73,7 +74,7 @@ loop-less : tie.Need-loop-less Inv-loop μ-loop
 loop-less c = search needs
 
 loop-again : tie.Need-loop-again Inv-loop μ-loop
-loop-again c = (going-next _ _ _ (c .before .before .before .before .before .before .before .before .before .before .before .before .loop .inv .0) (c .before .before .before .before .before .before .before .before .before .before .before .loop-test .taken) (rw (← c .before .before .before .before .before .before .before .before .before .wide .ensures, ← c .before .before .before .before .before .before .before .wide2 .ensures, ← c .before .before .before .before .before .before .read-at .ensures) (sym (c .before .before .before .before .aim-row .ensures .0) ∙ c .enum-told .given .1)) (rw (← c .before .before .before .before .before .before .before .before .before .wide .ensures, ← c .before .before .before .before .before .before .before .wide2 .ensures, ← c .before .before .before .before .before .before .read-at .ensures) (rw (c .enum-told .given .1) at (c .before .before .before .before .aim-row .ensures .1))), search needs)
+loop-again c = (going-next _ _ _ (c .before .before .before .before .before .before .before .before .before .before .before .before .loop .inv .0) (c .before .before .before .before .before .before .before .before .before .before .before .loop-test .taken) (rw (← c .before .before .before .before .before .before .before .before .before .wide .ensures, ← c .before .before .before .before .before .before .before .wide2 .ensures) (sym (c .before .before .before .before .aim-entry .ensures (rowAt (now (c .before .before .before .before .before .before .before .before .before .before .before .before .before .before .before .before .before .before .args .rows)) (now (c .before .before .before .before .before .before .before .before .before .before .before .before .before .before .before .before .before .before .args .names)) (c .before .before .before .before .before .before .before .wide2 .result)) (c .before .before .before .before .before .before .entry-at .ensures) .0) ∙ c .enum-told .given .1)) (rw (← c .before .before .before .before .before .before .before .before .before .wide .ensures, ← c .before .before .before .before .before .before .before .wide2 .ensures) (rw (c .enum-told .given .1) at (c .before .before .before .before .aim-entry .ensures (rowAt (now (c .before .before .before .before .before .before .before .before .before .before .before .before .before .before .before .before .before .before .args .rows)) (now (c .before .before .before .before .before .before .before .before .before .before .before .before .before .before .before .before .before .before .args .names)) (c .before .before .before .before .before .before .before .wide2 .result)) (c .before .before .before .before .before .before .entry-at .ensures) .1))), search needs)
 
 same-length-2 : tie.Need-same-length-2 Inv-loop μ-loop
 same-length-2 c = search needs
@@ -97,8 +98,8 @@ aim-all-spec =
     mul-wide-4
     shared-slice-read-wide-2
     wide-requires-2
-    read-at-requires
-    aim-row-requires
+    entry-at-requires
+    aim-entry-requires
     enum-known-one
     same-length
     returns

@@ -1,53 +1,105 @@
-use Rattle.machine.proofs.Steps.{step-refused}
+-- Each entry by the law of its kind, for whatever it was read from.
 use mathlib.Core.Path.{refl}
+use Rattle.entries.proofs.Back.{within, back, instruction-held}
+use Rattle.machine.proofs.Encodings.{instructed}
+use Rattle.machine.proofs.Steps.{step-instruction, step-label, step-jump, step-begin, step-end, step-refused}
 use borrow.Author.Needs.{needs}
 use Rattle.machine.proofs.State.step.Statement.{statement}
 use Rattle.machine.proofs.State.step.Tie as tie
-use Rattle.machine.proofs.State.step.Reads as reads
-use Rattle.machine.proofs.State.step.Lts as lts
-use Rattle.machine.proofs.State.item.Reads as item-reads
 
--- src/lib.rt:406:24
-enum-known-read : tie.Need-enum-known-read
-enum-known-read c = search needs
+enum-known-entry : tie.Need-enum-known-entry
+enum-known-entry c = search needs
 
--- src/lib.rt:406:31
-item-requires : tie.Need-item-requires
-item-requires c κs = (c .before .before .before .before .before .before .before .before .before .before .pre .0, rw (c .before .before .before .before .read .given .1) at (c .before .before .before .before .before .before .before .before .before .before .pre .1))
+instruction-requires : tie.Need-instruction-requires
+instruction-requires c κs = search needs
 
--- src/lib.rt:407:27
-enum-known-read-2 : tie.Need-enum-known-read-2
-enum-known-read-2 c = search needs
+enum-known-entry-2 : tie.Need-enum-known-entry-2
+enum-known-entry-2 c = search needs
 
--- src/lib.rt:391:5
+label-requires : tie.Need-label-requires
+label-requires c κs = let g = c .before .before .before .before .before .before .before .before .pre .0 in (g .within, g .rooming .parcels-few, g .rooming .labels-few, g .rooming .labels-in, rw (c .before .before .entry2 .given .1) at (c .before .before .before .before .before .before .before .before .pre .1), g .entries)
+
+enum-told : tie.Need-enum-told
+enum-told c = search needs
+
+jump-requires : tie.Need-jump-requires
+jump-requires c κs = search needs
+
+enum-known-entry-3 : tie.Need-enum-known-entry-3
+enum-known-entry-3 c = search needs
+
+loop-begin-requires : tie.Need-loop-begin-requires
+loop-begin-requires c κs = search needs
+
+enum-told-2 : tie.Need-enum-told-2
+enum-told-2 c = search needs
+
+loop-end-requires : tie.Need-loop-end-requires
+loop-end-requires c κs = search needs
+
+enum-known-entry-4 : tie.Need-enum-known-entry-4
+enum-known-entry-4 c = search needs
+
 same-length : tie.Need-same-length
 same-length c = search needs
 
--- src/lib.rt:391:5
+returns : tie.Need-returns
+returns c = λ rd e. let q = c .before .before .before .before .before .entry .given .1 in let h = instruction-held rd e q in step-instruction (back rd e q) (instructed (within rd) (h .form) (h .branch) (c .before .before .instruction .ensures))
+
 same-length-2 : tie.Need-same-length-2
 same-length-2 c = search needs
 
--- src/lib.rt:391:5
+returns-2 : tie.Need-returns-2
+returns-2 c = λ rd e. step-label (back rd e (c .before .before .before .before .before .entry2 .given .1)) (c .before .before .label .ensures)
+
 same-length-3 : tie.Need-same-length-3
 same-length-3 c = search needs
 
--- src/lib.rt:391:5
-returns : tie.Need-returns
-returns c = rw (c .before .before .before .before .before .before .before .before .before .before .before .read .given .1) (c .before .before .before .before .before .before .item .ensures)
+same-length-4 : tie.Need-same-length-4
+same-length-4 c = search needs
 
--- src/lib.rt:391:5
-returns-2 : tie.Need-returns-2
-returns-2 c = step-refused (c .before .read2 .given .1) refl
+returns-3 : tie.Need-returns-3
+returns-3 c = λ rd e. step-jump (back rd e (c .before .before .before .before .before .before .before .enum-told .given .1)) (c .before .before .before .before .jump .ensures)
+
+same-length-5 : tie.Need-same-length-5
+same-length-5 c = search needs
+
+returns-4 : tie.Need-returns-4
+returns-4 c = λ rd e. step-begin (back rd e (c .before .before .before .before .before .entry3 .given .1)) (c .before .before .loop-begin .ensures)
+
+same-length-6 : tie.Need-same-length-6
+same-length-6 c = search needs
+
+returns-5 : tie.Need-returns-5
+returns-5 c = λ rd e. step-end (back rd e (c .before .before .before .before .enum-told2 .given .1)) (c .before .before .loop-end .ensures)
+
+returns-6 : tie.Need-returns-6
+returns-6 c = λ rd e. step-refused (back rd e (c .before .entry4 .given .1)) refl
 
 pub step-spec : {M : Type 1} → statement M
 step-spec =
     tie.close
     (tie.spec
-    enum-known-read
-    item-requires
-    enum-known-read-2
+    enum-known-entry
+    instruction-requires
+    enum-known-entry-2
+    label-requires
+    enum-told
+    jump-requires
+    enum-known-entry-3
+    loop-begin-requires
+    enum-told-2
+    loop-end-requires
+    enum-known-entry-4
     same-length
-    same-length-2
-    same-length-3
     returns
-    returns-2)
+    same-length-2
+    returns-2
+    same-length-3
+    same-length-4
+    returns-3
+    same-length-5
+    returns-4
+    same-length-6
+    returns-5
+    returns-6)

@@ -1,8 +1,7 @@
--- The bytes from place k on decide, once the k before them are the same.
-use mathlib.Core.Path.{_≡_, sym, _∙_}
-use Prim.Native.Nat.{_+_, _-_, _≤_}
+-- The first k bytes decide, once those after them are the same.
+use mathlib.Core.Path.{_≡_, refl, sym, _∙_}
+use Prim.Native.Nat.{_-_, _≤_}
 use native.Mathlib.Omega.{arith}
-use native.Mathlib.Nat.{add-zero, sub-zero}
 use borrow.Author.Needs.{needs}
 use Rattle.places.specs.Items.{sameFrom}
 use Rattle.machine.proofs.Searches.{same-more, same-less}
@@ -10,13 +9,16 @@ use Rattle.machine.proofs.names.same.Statement.{statement}
 use Rattle.machine.proofs.names.same.Tie as tie
 
 abbrev Inv-loop : tie.InvT-loop
-Inv-loop names a b len k₀ k = (k ≤ len) × (sameFrom names (len - k) (a + k) (b + k) ≡ sameFrom names len a b)
+Inv-loop names a b len k₀ k = (k ≤ len) × (sameFrom names k a b ≡ sameFrom names len a b)
 
 abbrev μ-loop : tie.MeasureT-loop
-μ-loop names a b len k₀ k = len - k
+μ-loop names a b len k₀ k = k
 
 loop-holds : tie.Need-loop-holds Inv-loop μ-loop
-loop-holds c = (search needs, simp (add-zero, sub-zero))
+loop-holds c = (search needs, refl)
+
+sub-k : tie.Need-sub-k Inv-loop μ-loop
+sub-k c = search needs
 
 add-if1 : tie.Need-add-if1 Inv-loop μ-loop
 add-if1 c = search needs
@@ -31,19 +33,16 @@ shared-slice-read-if1-2 : tie.Need-shared-slice-read-if1-2 Inv-loop μ-loop
 shared-slice-read-if1-2 c = search needs
 
 returns : tie.Need-returns Inv-loop μ-loop
-returns c = sym (same-less _ _ _ _ _ (c .before .before .before .loop-test .taken) (c .if1 .taken)) ∙ c .before .before .before .before .loop .inv .1
-
-add-k : tie.Need-add-k Inv-loop μ-loop
-add-k c = search needs
+returns c = sym (same-less _ _ _ _ (c .before .before .before .loop-test .taken) (c .if1 .taken)) ∙ c .before .before .before .before .loop .inv .1
 
 loop-less : tie.Need-loop-less Inv-loop μ-loop
 loop-less c = search needs
 
 loop-again : tie.Need-loop-again Inv-loop μ-loop
-loop-again c = (search needs, sym (same-more _ _ _ _ _ (c .before .before .before .loop-test .taken) (c .if1 .left)) ∙ c .before .before .before .before .loop .inv .1)
+loop-again c = (omega (arith, c .before .before .before .before .loop .inv .0), sym (same-more _ _ _ _ (c .before .before .before .loop-test .taken) (c .if1 .left)) ∙ c .before .before .before .before .loop .inv .1)
 
 returns-2 : tie.Need-returns-2 Inv-loop μ-loop
-returns-2 c = let e : c .before .before .args .len - c .before .loop .k ≡ 0 = omega arith in rw e at (c .before .loop .inv .1)
+returns-2 c = let e : c .before .loop .k ≡ 0 = omega arith in rw e at (c .before .loop .inv .1)
 
 pub same-spec : {M : Type 1} → statement M
 same-spec =
@@ -52,12 +51,12 @@ same-spec =
     Inv-loop
     μ-loop
     loop-holds
+    sub-k
     add-if1
     shared-slice-read-if1
     add-if1-2
     shared-slice-read-if1-2
     returns
-    add-k
     loop-less
     loop-again
     returns-2)

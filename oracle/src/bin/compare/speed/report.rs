@@ -41,9 +41,9 @@ feel it. Names here are of one length and differ in their last bytes (`label_000
 ";
 
 const BEHIND: &str = "\
-Why the port is behind where it is: in a kernel of many labels the linear search (below). Else the way of a row through the library: an item
-crosses from reading to encoding, and its parcels from encoding to the build, as values in memory that are written in small pieces and read back
-in large ones, and each such crossing stalls the processor for some nanoseconds; where kinds come at random, a missed branch or two cost the rest.
+Why the port is behind where it is: in a kernel of many labels the linear search (below). Else the reading of a row: any seventeen numbers may
+stand in it, so each of its sixteen places is held to a bound of its kind, some two fifths of a row's time; the Rust is given values that were
+checked when they were made. Where kinds come at random, a missed branch or two cost the rest: some 10 nanoseconds each.
 ";
 
 pub fn text(figures: &Figures, memory: &Memory) -> String {

@@ -1,8 +1,8 @@
--- The two jumps by the match's own facts, any other by `Delayed`.
+-- The two jumps by the match's own facts, any other by `Slots`.
+use Rattle.entries.proofs.Slots.{others-none}
 use borrow.Author.Needs.{needs}
-use Rattle.slots.proofs.Delayed.{others-none}
-use Rattle.slots.proofs.has_slots.Statement.{statement}
-use Rattle.slots.proofs.has_slots.Tie as tie
+use Rattle.entries.proofs.has_slots.Statement.{statement}
+use Rattle.entries.proofs.has_slots.Tie as tie
 
 enum-known-v : tie.Need-enum-known-v
 enum-known-v c = search needs
