@@ -1,6 +1,6 @@
 -- Any instruction but a `JumpRelative` (13) and a `CJump` (14) has no slots.
 use mathlib.Core.Path.{_≡_, refl, sym}
-use mathlib.Core.Bool.{false}
+use mathlib.Core.Bool.{true, false}
 use mathlib.Core.Logic.{_⊎_, inl, inr, ⊎-elim}
 use mathlib.Core.List.{List, [], _∷_}
 use Prim.Native.Nat.{ℕ}
@@ -9,9 +9,10 @@ use types.Run.{OneOf, miss}
 use Rattle.items.proofs.VisaInstruction.{the-type}
 use Rattle.items.specs.declared.VisaInstruction.{VisaInstruction}
 use Rattle.items.specs.declared.VisaInstruction.the-variants.{Scalar, Transfer, LoadImmediate, ModifyIndex, LoadDmPostModify, StoreDmPostModify, LoadDmPreModify, StoreDmPreModify, LoadDmOffset, StoreDmOffset, IntegerSubOne, IntegerPass, IntegerCompareUnsigned, JumpRelative, CJump, PushImmediate, LeafReturn, Compute, DualMove, MemoryMove, StoreImmediate, BitSetMode1, BitClearMode1, Nop, WideNop}
-use Rattle.items.specs.Kinds.{hasSlots}
+use Rattle.items.specs.Kinds.{isBranch, hasSlots}
 
-jump-or-none : (v : VisaInstruction) → OneOf (13 ∷ 14 ∷ []) (tagOf the-type v) ⊎ (hasSlots v ≡ false)
+-- one of the two, and so a branch, or without slots
+pub jump-or-none : (v : VisaInstruction) → (OneOf (13 ∷ 14 ∷ []) (tagOf the-type v) × (isBranch v ≡ true)) ⊎ (hasSlots v ≡ false)
 jump-or-none (Scalar i) = inr refl
 jump-or-none (Transfer d s) = inr refl
 jump-or-none (LoadImmediate d v) = inr refl
@@ -25,8 +26,8 @@ jump-or-none (StoreDmOffset r i z) = inr refl
 jump-or-none (IntegerSubOne d s) = inr refl
 jump-or-none (IntegerPass d s) = inr refl
 jump-or-none (IntegerCompareUnsigned l r) = inr refl
-jump-or-none (JumpRelative c z d) = inl (inl refl)
-jump-or-none (CJump t) = inl (inr refl)
+jump-or-none (JumpRelative c z d) = inl (inl refl, refl)
+jump-or-none (CJump t) = inl (inr refl, refl)
 jump-or-none (PushImmediate v) = inr refl
 jump-or-none LeafReturn = inr refl
 jump-or-none (Compute k) = inr refl
@@ -47,4 +48,4 @@ apart t (inl e) h = miss others 13 tt (rw e at h)
 apart t (inr e) h = miss others 14 tt (rw e at h)
 
 pub others-none : (v : VisaInstruction) → OneOf others (tagOf the-type v) → false ≡ hasSlots v
-others-none v h = ⊎-elim (λ j. absurd (apart (tagOf the-type v) j h)) (λ e. sym e) (jump-or-none v)
+others-none v h = ⊎-elim (λ j. absurd (apart (tagOf the-type v) (j .0) h)) (λ e. sym e) (jump-or-none v)

@@ -1,7 +1,7 @@
--- Any instruction but a `JumpRelative` and a `CJump`, which are branches, has no slots; and what an entry says of its item.
+-- What stands in a slot has no slots of its own; and what an entry says of its item.
 use mathlib.Core.Path.{_≡_, refl, sym, ap, _∙_}
 use mathlib.Core.Bool.{Bool, true, false, not}
-use mathlib.Core.Logic.{_⊎_, inl, inr, ⊎-elim}
+use mathlib.Core.Logic.{⊎-elim}
 use mathlib.Core.List.{List, [], _∷_}
 use Prim.Native.Nat.{ℕ}
 use native.Mathlib.Omega.{arith}
@@ -10,7 +10,6 @@ use types.Run.{OneOf, miss}
 use Rattle.entries.proofs.Entry.{the-type}
 use Rattle.items.specs.Kinds.{isBranch, hasSlots}
 use Rattle.items.specs.declared.VisaInstruction.{VisaInstruction}
-use Rattle.items.specs.declared.VisaInstruction.the-variants.{Scalar, Transfer, LoadImmediate, ModifyIndex, LoadDmPostModify, StoreDmPostModify, LoadDmPreModify, StoreDmPreModify, LoadDmOffset, StoreDmOffset, IntegerSubOne, IntegerPass, IntegerCompareUnsigned, JumpRelative, CJump, PushImmediate, LeafReturn, Compute, DualMove, MemoryMove, StoreImmediate, BitSetMode1, BitClearMode1, Nop, WideNop}
 use Rattle.items.specs.declared.Item.{Item}
 use Rattle.items.specs.declared.Item.the-variants.{Instruction, Label, Jump, LoopBegin, LoopEnd}
 use Rattle.rows.specs.declared.Read.{Read}
@@ -19,38 +18,12 @@ use Rattle.encode.specs.declared.Form.{Form}
 use Rattle.entries.specs.declared.Entry.{Entry}
 use Rattle.entries.specs.declared.Entry.the-variants as entry
 use Rattle.entries.specs.Entries.{itemEntry, entryOf}
+use Rattle.entries.proofs.Slots.{jump-or-none}
 use Rattle.slots.specs.Slots.{instructionThat, opens, fills, rowThat}
-
-jump-or-none : (v : VisaInstruction) → (isBranch v ≡ true) ⊎ (hasSlots v ≡ false)
-jump-or-none (Scalar i) = inr refl
-jump-or-none (Transfer d s) = inr refl
-jump-or-none (LoadImmediate d v) = inr refl
-jump-or-none (ModifyIndex i z) = inr refl
-jump-or-none (LoadDmPostModify r i m) = inr refl
-jump-or-none (StoreDmPostModify r i m) = inr refl
-jump-or-none (LoadDmPreModify r i m) = inr refl
-jump-or-none (StoreDmPreModify r i m) = inr refl
-jump-or-none (LoadDmOffset r i z) = inr refl
-jump-or-none (StoreDmOffset r i z) = inr refl
-jump-or-none (IntegerSubOne d s) = inr refl
-jump-or-none (IntegerPass d s) = inr refl
-jump-or-none (IntegerCompareUnsigned l r) = inr refl
-jump-or-none (JumpRelative c z d) = inl refl
-jump-or-none (CJump t) = inl refl
-jump-or-none (PushImmediate v) = inr refl
-jump-or-none LeafReturn = inr refl
-jump-or-none (Compute k) = inr refl
-jump-or-none (DualMove k dm pm) = inr refl
-jump-or-none (MemoryMove k a) = inr refl
-jump-or-none (StoreImmediate i m v) = inr refl
-jump-or-none (BitSetMode1 v) = inr refl
-jump-or-none (BitClearMode1 v) = inr refl
-jump-or-none Nop = inr refl
-jump-or-none WideNop = inr refl
 
 -- what stands in a slot has none
 no-branch : (v : VisaInstruction) → not (isBranch v) ≡ true → hasSlots v ≡ false
-no-branch v h = ⊎-elim (λ j. let q = rw j at h in let z : _≡_ {A = ℕ} 0 1 = cc in absurd (omega arith)) (λ e. e) (jump-or-none v)
+no-branch v h = ⊎-elim (λ j. let q = rw (j .1) at h in let z : _≡_ {A = ℕ} 0 1 = cc in absurd (omega arith)) (λ e. e) (jump-or-none v)
 
 pub fills-opens : (x : Read) → rowThat fills x ≡ true → rowThat opens x ≡ false
 fills-opens (read.Item (Instruction v)) h = no-branch v h

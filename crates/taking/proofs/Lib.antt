@@ -1,4 +1,5 @@
 pub mod NextRow
 pub mod Past
+pub mod Records
 pub mod Turning
 pub mod Values

@@ -5,17 +5,14 @@ use mathlib.Core.Bool.{Bool, true, false}
 use mathlib.Core.List.{List}
 use Prim.Native.Nat.{ℕ, zero, suc, _+_, _-_, _*_, _≤_, _<_}
 use native.Mathlib.Omega.{arith}
-use lib.ListN.{length, getD, set, length-set}
-use lib.Seq.{set-out}
+use lib.ListN.{length, getD, set}
 use lib.Dec.{ltb}
 use borrow.Author.Tests.{lt-ltb, le-ltb, ltb-true, ltb-false}
 use Rattle.refusals.specs.declared.Refusal.{Refusal}
 use Rattle.refusals.specs.declared.Refusal.the-variants.{RowSlice, UnclosedLoop}
 use Rattle.refusals.specs.declared.Verdict.{Verdict}
 use Rattle.refusals.specs.declared.Verdict.the-variants.{Good, Refused}
-use Rattle.items.specs.declared.Item.the-variants.{Instruction, Label, Jump, LoopBegin, LoopEnd}
 use Rattle.rows.specs.declared.Read.{Read}
-use Rattle.rows.specs.declared.Read.the-variants as read
 use Rattle.rows.specs.Rows.{wellFormed}
 use Rattle.rows.proofs.Limit.{rows-few}
 use Rattle.places.specs.declared.OpenLoop.{OpenLoop}
@@ -25,18 +22,19 @@ use Rattle.places.specs.Build.{when, orElse, zeroLoop}
 use Rattle.prefixes.proofs.Verdicts.{refused-good}
 use Rattle.machine.specs.declared.State.{State}
 use Rattle.machine.specs.declared.Step.{Step}
-use Rattle.machine.specs.declared.Step.the-variants.{On, Opened, Closed, Stop}
+use Rattle.machine.specs.declared.Step.the-variants.{Stop}
 use Rattle.machine.specs.Machine.{Mem, memOf, check, next, topOf, stepRow, stepBy, stepState, loopsBy, Stepped, Rooming, GoodFor}
 use Rattle.machine.specs.Scan.{scanAt, scanEnd, Going, Came, going-start, going-next, going-stop, going-end}
 use Rattle.machine.specs.Fold.{zeroState, memAt, rowChk, rowNext}
-use Rattle.machine.specs.Finish.{level, shut, closeVerdict, closed}
+use Rattle.machine.specs.Finish.{level, closeVerdict, closed}
 use Rattle.joins.proofs.Along.{mem-is}
 use Rattle.joins.proofs.Fine.{row-fine}
-use Rattle.joins.proofs.Keeps.{keep, starts-less, good-zero}
+use Rattle.joins.proofs.Keeps.{keep, good-zero}
 use Rattle.taking.specs.declared.Taking.{Taking}
 use Rattle.taking.specs.declared.Turned.{Turned}
 use Rattle.taking.specs.Taking.{formed, rowsTaken, startOf, goingOn, moreOf, wentOn, turnedOf, lateOf, closedOf, RowTurn, LateTurn, Stepping, Onward, Ready, Turnt, tookVerdict, tookMem, Took}
 use Rattle.taking.proofs.NextRow.{row-next, row-last}
+use Rattle.taking.proofs.Records.{turn-loops, turn-on, deeper-by-one, mem-eq, closed-none, closed-one, good-less}
 
 -- ---- one turn
 pub ready-steps : {rs ns : List ℕ} {r : Rooms} {t : Taking} {p l j : List ℕ} {k : List OpenLoop} {top : OpenLoop} → Ready rs ns r t p l j k → top ≡ getD k (t .state .depth - 1) zeroLoop → Stepping rs ns r t p l j top (length k)
@@ -51,53 +49,6 @@ pub turnt-is : {rs ns : List ℕ} {r : Rooms} {t : Taking} {p l j : List ℕ} {k
     → top ≡ getD k (t .state .depth - 1) zeroLoop → Onward rs ns r t p l j top (length k) y p′ l′ j′ → k′ ≡ set k (y .slot) (y .rec) → Turnt rs ns r t p l j k (y .taking) p′ l′ j′ k′
 turnt-is {rs} {ns} {r} {t} {p} {l} {j} {k} {y} {p′} {l′} {j′} h e o q =
     record { turn = y; onward = subst (λ (z : OpenLoop). Onward rs ns r t p l j z (length k) y p′ l′ j′) e o; taking = refl; loops = q }
-
--- ---- the loop table, and the state, after a step
-turn-loops : (t : Taking) (x : Step) (top : OpenLoop) (k : List OpenLoop) → set k (turnedOf t x top (length k) .slot) (turnedOf t x top (length k) .rec) ≡ loopsBy x (t .state) k
-turn-loops t (On s) top k = set-out k (length k) top (omega arith)
-turn-loops t (Opened s start) top k = refl
-turn-loops t (Closed s) top k = refl
-turn-loops t (Stop r) top k = set-out k (length k) top (omega arith)
-
-turn-on : (t : Taking) (x : Read) (s : State) (top : OpenLoop) (lent : ℕ) → turnedOf t (stepRow x s) top lent .taking ≡ wentOn t (stepState (stepRow x s) s)
-turn-on t (read.Item (Instruction v)) s top lent = refl
-turn-on t (read.Item (Label a b)) s top lent = refl
-turn-on t (read.Item (Jump c a b)) s top lent = refl
-turn-on t (read.Item (LoopBegin c m)) s top lent = refl
-turn-on t (read.Item LoopEnd) s top lent = refl
-turn-on t (read.Refused why) s top lent = refl
-
-deeper-by-one : (x : Read) (s : State) → stepState (stepRow x s) s .depth ≤ s .depth + 1
-deeper-by-one (read.Item (Instruction v)) s = omega arith
-deeper-by-one (read.Item (Label a b)) s = omega arith
-deeper-by-one (read.Item (Jump c a b)) s = omega arith
-deeper-by-one (read.Item (LoopBegin c m)) s = omega arith
-deeper-by-one (read.Item LoopEnd) s = omega arith
-deeper-by-one (read.Refused why) s = omega arith
-
--- ---- closing
-mem-eq : {s s′ : State} {p p′ l l′ j j′ : List ℕ} {k k′ : List OpenLoop} → s ≡ s′ → p ≡ p′ → l ≡ l′ → j ≡ j′ → k ≡ k′ → memOf s p l j k ≡ memOf s′ p′ l′ j′ k′
-mem-eq a b c d e = λ i. record { s = a i; P = b i; L = c i; J = d i; K = e i }
-
--- with no loop open there is nothing to close
-closed-none : (s : State) (p l j : List ℕ) (k : List OpenLoop) → s .depth ≡ 0 → closed (memOf s p l j k) ≡ memOf s p l j k
-closed-none s p l j k z = mem-eq (ap (λ (d : ℕ). level d s) (sym z)) refl refl refl (ap (λ (d : ℕ). shut d k) z)
-
--- one loop closed, the rest later
-closed-one : (s : State) (p l j : List ℕ) (k : List OpenLoop) → 0 < s .depth → closed (memOf (level (s .depth - 1) s) p l j (set k (s .depth - 1) zeroLoop)) ≡ closed (memOf s p l j k)
-closed-one s p l j k h =
-    let e : suc (s .depth - 1) ≡ s .depth = omega arith in
-    mem-eq refl refl refl refl (ap (λ (d : ℕ). shut d k) e)
-
-good-less : (ns : List ℕ) (r : Rooms) (s : State) (p l j : List ℕ) (k : List OpenLoop) → 0 < s .depth → GoodFor ns r (memOf s p l j k) → GoodFor ns r (memOf (level (s .depth - 1) s) p l j (set k (s .depth - 1) zeroLoop))
-good-less ns r s p l j k h g =
-    let n = length-set k (s .depth - 1) zeroLoop in
-    record {
-      rooming = omega (arith, g .rooming);
-      within = omega (arith, g .within);
-      entries = g .entries;
-      starts = starts-less s (level (s .depth - 1) s) k refl h refl refl (g .starts);
-    }
 
 -- ---- along the turns: what is left to do
 abbrev pub unrefused : Verdict → ℕ
