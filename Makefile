@@ -18,9 +18,10 @@ run: ## build the bench program and run it on KERNEL (default: examples/branch.k
 test: ## the verdict: prove every crate from nothing, try the must-fail edits, run the programs
 	@rt ci
 
-docs: ## print anew what the documents take from the definitions: docs/FORMS.md, its pictures, the table in docs/PROVED.md
+docs: ## print anew what the documents take from the tree: docs/FORMS.md, its pictures, the tables of docs/PROVED.md and docs/ARCHITECTURE.md
 	@python3 tools/forms
 	@python3 tools/believed
+	@python3 tools/map
 
 walks: ## print anew the proofs of the functions that hold the lent loop records
 	@python3 tools/walks
@@ -29,6 +30,7 @@ docs-check: ## check that the documents, and the printed proofs, are what the de
 	@python3 tools/walks --check
 	@python3 tools/forms --check
 	@python3 tools/believed --check
+	@python3 tools/map --check
 	@mkdir -p target
 	@rt check bench layouts >target/docs-check.log || { tail -n 5 target/docs-check.log; exit 1; }
 	@python3 tools/examples
@@ -58,6 +60,11 @@ check-memory: link ## run the comparison on few inputs under valgrind, a minute
 	@sh include/test
 	@sh oracle/check-memory
 
-speed: link ## time the port against the original Rust (on x86-64), and write docs/SPEED.md and its plot
+speed: link ## time the port against the original Rust, and write docs/SPEED.md and its plot; on another processor than x86-64 count instructions
+ifeq ($(X86_64),)
 	@LINK_LIB=target/staticlib sh oracle/build compare
-	@$(X86_64) $(ORACLE)/compare speed --write docs
+	@$(ORACLE)/compare speed --write docs
+else
+	@sh oracle/build
+	@python3 tools/count-instructions
+endif

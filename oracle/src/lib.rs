@@ -6,6 +6,7 @@ pub mod cases;
 pub mod every_row;
 pub mod huge;
 pub mod judge;
+pub mod kernels;
 #[cfg(feature = "linked")]
 pub mod linked;
 pub mod list;

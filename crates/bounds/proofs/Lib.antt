@@ -1,3 +1,4 @@
 pub mod Lookups
 pub mod Filled
 pub mod Tails
+pub mod Edges

@@ -100,7 +100,7 @@ pub fn is_compute(kind: u32) -> bool
 }
 
 // Whether a kind is an instruction's.
-pub fn is_instruction(kind: u32) -> bool
+fn is_instruction(kind: u32) -> bool
     ensures { λ r. ⌜ r ≡ isInstruction kind ⌝ }
 {
     kind <= 12 || 16 <= kind && kind <= 39

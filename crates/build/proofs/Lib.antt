@@ -1,4 +1,2 @@
-pub mod Settled
 pub mod Table
-pub mod Waits
 pub mod Whole

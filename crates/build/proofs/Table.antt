@@ -15,7 +15,7 @@ use denote.Array.{Array, arrayVal, each, array-lawful}
 use denote.Shadow.{shadow}
 use denote.Slice.{Room}
 use Rattle.places.specs.declared.OpenLoop.{OpenLoop}
-use Rattle.places.specs.Build.{zeroLoop}
+use Rattle.places.specs.Left.{zeroLoop}
 use Rattle.places.proofs.OpenLoop as loop
 use Rattle.places.proofs.OpenLoop.Laws as loop-laws
 use Rattle.taking.proofs.Values.{loop-value, zero-is}

@@ -1,47 +1,49 @@
 -- From the turns and the end to the contract of the build.
 use mathlib.Core.Path.{_≡_, refl, sym, ap, ap₂, _∙_, subst}
-use mathlib.Core.Bool.{Bool, true, false}
+use mathlib.Core.Bool.{Bool, true, false, cond}
 use mathlib.Core.List.{List}
-use Prim.Native.Nat.{ℕ, _+_, _≤_, _<_}
+use Prim.Native.Nat.{ℕ, _+_}
 use native.Mathlib.Omega.{arith}
 use lib.ListN.{length}
 use Rattle.refusals.specs.declared.Refusal.the-variants.{RowSlice}
 use Rattle.refusals.specs.declared.Verdict.{Verdict}
 use Rattle.refusals.specs.declared.Verdict.the-variants.{Good, Refused}
-use Rattle.rows.specs.declared.Read.{Read}
+use Rattle.coded.specs.declared.Coded.{Coded}
 use Rattle.rows.specs.Rows.{wellFormed}
 use Rattle.rows.proofs.Limit.{rows-few}
-use Rattle.places.specs.declared.Answer.{Answer}
-use Rattle.places.specs.declared.Answer.the-variants as answer
-use Rattle.places.specs.declared.OpenLoop.{OpenLoop}
+use Rattle.refusals.specs.declared.Answer.{Answer}
+use Rattle.refusals.specs.declared.Answer.the-variants as answer
 use Rattle.places.specs.declared.Rooms.{Rooms}
-use Rattle.places.specs.Items.{pick, rowAt, rowsIn, roomsOf}
-use Rattle.places.specs.Build.{orElse, Out, Left, built, buildOf}
+use Rattle.places.specs.Items.{rowAt, rowsIn, roomsOf}
+use Rattle.refusals.specs.Order.{orElse}
+use Rattle.places.specs.Left.{Lent, lentOf, kernelOf, roomsIn, Outcome, outcome, built, buildOf, Builds}
+use Rattle.refusals.specs.Numbers.{answered}
 use Rattle.prefixes.proofs.Verdicts.{refused-good, orElse-good}
 use Rattle.machine.specs.Machine.{Mem, memOf, Rooming}
-use Rattle.machine.specs.Scan.{scan-all, scan-end}
-use Rattle.machine.specs.Fold.{zeroState, rowChk, rowNext, rowsVerdict, rowsMem}
-use Rattle.machine.specs.Finish.{AimsFine, finish, closeVerdict, closed, outOf}
-use Rattle.joins.proofs.Along.{check-is}
-use Rattle.joins.proofs.Equal.{same}
-use Rattle.joins.proofs.Fine.{row-fine}
-use Rattle.joins.proofs.Keeps.{rooms-in}
-use Rattle.joins.proofs.Prefix.{mem}
-use Rattle.joins.proofs.Waiting.{aims-end}
+use Rattle.refusals.specs.Scan.{scan-all, scan-end}
+use Rattle.machine.specs.Fold.{rowChk, zeroState, rowNext, rowsVerdict, rowsMem}
+use Rattle.machine.specs.Finish.{finish, closeVerdict, closed, outOf}
+use Rattle.settling.specs.Settling.{AimsFine}
+use Rattle.agrees.proofs.Along.{check-is}
+use Rattle.agrees.proofs.Equal.{same}
+use Rattle.prefixes.proofs.Names.{row-fine}
+use Rattle.agrees.proofs.Keeps.{rooms-in}
+use Rattle.agrees.proofs.Prefix.{mem}
+use Rattle.agrees.proofs.Waiting.{aims-end}
 use Rattle.taking.specs.declared.Taking.{Taking}
 use Rattle.taking.specs.Taking.{formed, rowsTaken, tookVerdict, tookMem, Took}
-use Rattle.build.specs.Finish.{Finishing, Finished}
+use Rattle.build.specs.Finish.{Ends, Finishing, Finished}
 
 pub rooming-of : {a b c d : ℕ} {r : Rooms} → r ≡ roomsOf a b c d → Rooming r a b c d
 rooming-of {a} {b} {c} {d} e = rw e (rooms-in a b c d)
 
 -- ---- no refusal among the rows: every row was taken in
-module _ (rs ns : List ℕ) (r : Rooms) (p l j : List ℕ) (k : List OpenLoop) where
-  abbrev it : ℕ → Read
+module _ (rs ns : List ℕ) (r : Rooms) (lent : Lent) where
+  abbrev it : ℕ → Coded
   it = rowAt rs ns
 
   abbrev m₀ : Mem
-  m₀ = memOf zeroState p l j k
+  m₀ = memOf zeroState lent
 
   well : formed rs ≡ Good → wellFormed (length rs) ≡ true
   well e = go (wellFormed (length rs)) refl
@@ -50,7 +52,7 @@ module _ (rs ns : List ℕ) (r : Rooms) (p l j : List ℕ) (k : List OpenLoop) w
       go true q = q
       go false q = absurd (refused-good RowSlice (rw q at e))
 
-  module _ (rooms : Rooming r (length p) (length l) (length j) (length k)) (w : wellFormed (length rs) ≡ true) (good : tookVerdict rs ns r p l j k ≡ Good) where
+  module _ (rooms : Rooming r (length (lent .parcels)) (length (lent .labels)) (length (lent .jumps)) (length (lent .loops))) (w : wellFormed (length rs) ≡ true) (good : tookVerdict rs ns r lent ≡ Good) where
     abbrev C : ℕ → Mem → Verdict
     C = rowChk ns r it (rowsTaken rs) m₀
 
@@ -58,37 +60,39 @@ module _ (rs ns : List ℕ) (r : Rooms) (p l j : List ℕ) (k : List OpenLoop) w
     N = rowNext ns r it (rowsTaken rs) m₀
 
     all : rowsTaken rs ≡ rowsIn rs
-    all = ap (λ (b : Bool). pick b (rowsIn rs) 0) w
+    all = ap (λ (b : Bool). cond b (rowsIn rs) 0) w
 
-    last : tookMem rs ns r p l j k ≡ mem it p l j k (rowsIn rs)
-    last = ap (mem it p l j k) (scan-end C N m₀ (rowsTaken rs) 0 good ∙ (let z : 0 + rowsTaken rs ≡ rowsIn rs = omega (arith, all) in z))
+    last : tookMem rs ns r lent ≡ mem it lent (rowsIn rs)
+    last = ap (mem it lent) (scan-end C N m₀ (rowsTaken rs) 0 good ∙ (let z : 0 + rowsTaken rs ≡ rowsIn rs = omega (arith, all) in z))
 
-    aims : AimsFine ns (tookMem rs ns r p l j k .L) (tookMem rs ns r p l j k .s .labels) (tookMem rs ns r p l j k .J) (rowsIn rs) (tookMem rs ns r p l j k .s .jumps) (length (tookMem rs ns r p l j k .P))
+    aims : AimsFine ns (tookMem rs ns r lent .lent .labels) (tookMem rs ns r lent .s .labels) (tookMem rs ns r lent .lent .jumps) (rowsIn rs) (tookMem rs ns r lent .s .jumps) (length (tookMem rs ns r lent .lent .parcels))
     aims =
-        subst (λ (y : Mem). AimsFine ns (y .L) (y .s .labels) (y .J) (rowsIn rs) (y .s .jumps) (length (y .P))) (sym last)
-        (aims-end ns r it (rowsIn rs) p l j k rooms (row-fine rs ns) (rows-few (length rs) w)
+        subst (λ (y : Mem). AimsFine ns (y .lent .labels) (y .s .labels) (y .lent .jumps) (rowsIn rs) (y .s .jumps) (length (y .lent .parcels))) (sym last)
+        (aims-end ns r it (rowsIn rs) lent rooms (row-fine rs ns) (rows-few (length rs) w)
         (λ q h. sym (check-is ns r it (rowsTaken rs) m₀ q) ∙ scan-all C N m₀ (rowsTaken rs) 0 good q (omega arith) (omega (arith, all))))
 
-module _ {rs ns : List ℕ} {r : Rooms} {p l j : List ℕ} {k : List OpenLoop} {t : Taking} {p′ l′ j′ : List ℕ} {k′ : List OpenLoop} (e : r ≡ roomsOf (length p) (length l) (length j) (length k)) (x : Took rs ns r p l j k t p′ l′ j′ k′) where
-  pub took-finishing : Finishing rs ns t p′ l′ j′
+module _ {rs ns : List ℕ} {r : Rooms} {lent : Lent} {t : Taking} {lent′ : Lent} (e : r ≡ roomsIn lent) (x : Took rs ns r lent t lent′) where
+  pub took-finishing : Finishing rs ns t (lent′ .parcels) (lent′ .labels) (lent′ .jumps)
   took-finishing =
       record {
         used = let g = x .good in omega (arith, g .rooming, g .within);
         aims = λ v.
             let a = orElse-good (formed rs) _ (sym (x .verdict) ∙ v) in
-            let b = orElse-good (tookVerdict rs ns r p l j k) _ (a .1) in
-            subst (λ (y : Mem). AimsFine ns (y .L) (y .s .labels) (y .J) (rowsIn rs) (y .s .jumps) (length (y .P))) (sym (x .mem)) (aims rs ns r p l j k (rooming-of e) (well rs ns r p l j k (a .0)) (b .0));
+            let b = orElse-good (tookVerdict rs ns r lent) _ (a .1) in
+            subst (λ (y : Mem). AimsFine ns (y .lent .labels) (y .s .labels) (y .lent .jumps) (rowsIn rs) (y .s .jumps) (length (y .lent .parcels))) (sym (x .mem)) (aims rs ns r lent (rooming-of e) (well rs ns r lent (a .0)) (b .0));
       }
 
   -- what the rows and the end come to, were the slice rows or not
   by-form : (b : Bool)
       → finish ns (rowAt rs ns)
-      (orElse (pick b Good (Refused RowSlice)) (closeVerdict (rowsVerdict ns r (rowAt rs ns) (pick b (rowsIn rs) 0) (memOf zeroState p l j k)) (rowsMem ns r (rowAt rs ns) (pick b (rowsIn rs) 0) (memOf zeroState p l j k))))
-      (closed (rowsMem ns r (rowAt rs ns) (pick b (rowsIn rs) 0) (memOf zeroState p l j k)))
-      ≡ pick b (built ns (rowAt rs ns) (rowsIn rs) p l j k) (record { answer = answer.Refused RowSlice; P = p; L = l; J = j; K = k })
-  by-form true = ap (λ (y : Rooms). outOf ns y (rowAt rs ns) (rowsIn rs) (memOf zeroState p l j k)) e ∙ same ns (rowAt rs ns) (rowsIn rs) p l j k (row-fine rs ns)
+      (orElse (cond b Good (Refused RowSlice)) (closeVerdict (rowsVerdict ns r (rowAt rs ns) (cond b (rowsIn rs) 0) (memOf zeroState lent)) (rowsMem ns r (rowAt rs ns) (cond b (rowsIn rs) 0) (memOf zeroState lent))))
+      (closed (rowsMem ns r (rowAt rs ns) (cond b (rowsIn rs) 0) (memOf zeroState lent)))
+      ≡ cond b (built (kernelOf rs ns) lent) (outcome (answer.Refused RowSlice) lent)
+  by-form true = ap (λ (y : Rooms). outOf ns y (rowAt rs ns) (rowsIn rs) (memOf zeroState lent)) e ∙ same ns (rowAt rs ns) (rowsIn rs) lent (row-fine rs ns)
   by-form false = refl
 
-  pub built-is : {a : Answer} {p″ l″ j″ : List ℕ} → Finished rs ns t p′ l′ j′ a p″ l″ j″ → Left (buildOf rs ns p l j k) a p″ l″ j″ k′
-  built-is {a} {p″} {l″} {j″} h =
-      subst (λ (o : Out). Left o a p″ l″ j″ k′) (ap₂ (finish ns (rowAt rs ns)) (x .verdict) (x .mem) ∙ by-form (wellFormed (length rs))) (h k′)
+  pub built-is : {a : Answer} {p l j : List ℕ} → Finished rs ns t (lent′ .parcels) (lent′ .labels) (lent′ .jumps) a p l j → Builds rs ns lent (answered a) (lentOf p l j (lent′ .loops))
+  built-is {a} {p} {l} {j} h =
+      let o : Ends (buildOf rs ns lent) a (lentOf p l j (lent′ .loops)) =
+      subst (λ (o : Outcome). Ends o a (lentOf p l j (lent′ .loops))) (ap₂ (finish ns (rowAt rs ns)) (x .verdict) (x .mem) ∙ by-form (wellFormed (length rs))) (h (lent′ .loops)) in
+      record { answer = ap answered (o .answer); parcels = o .parcels; labels = o .labels; jumps = o .jumps; loops = o .loops }

@@ -1,21 +1,39 @@
 // The public build: rows, names and lent buffers to an answer, and the name of a refusal.
-mod jumps;
-mod wipes;
-
 ghost use mathlib.Core.Path.{_≡_};
 ghost use Prim.Native.Nat.{_≤_};
-ghost use lib.ListN.{length, replicate};
-ghost use Rattle.places.specs.Build.{part, nameOf, zeroLoop, buildOf, Left};
-ghost use Rattle.build.specs.Finish.{Finishing, Finished};
-use places::Answer;
+ghost use lib.ListN.{length};
+ghost use Rattle.refusals.specs.Numbers.{answered};
+ghost use Rattle.places.specs.Looking.{part};
+ghost use Rattle.places.specs.Left.{lentOf, Builds, BuildsAlone, HandsBack};
+ghost use Rattle.settling.specs.Settling.{Used};
+ghost use Rattle.build.specs.Finish.{Wiped, Finishing, Finished};
+use machine::State;
 use places::OpenLoop;
 use places::Rooms;
+use places::ZERO_LOOP;
+use refusals::Answer;
+use refusals::Refusal;
 use refusals::Verdict;
 use taking::Taking;
 
+// The answer of a refusal, with zeros in what the rows took.
+fn refused(
+    why: Refusal,
+    state: State,
+    parcels: &mut [u16],
+    labels: &mut [u32],
+    jumps: &mut [u32],
+) -> Answer
+    requires { ⌜ Used (state .at) (state .labels) (state .jumps) (length (now parcels)) (length (now labels)) (length (now jumps)) ⌝ }
+    ensures { λ a. ⌜ Wiped why state (now (parcels .entry)) (now (labels .entry)) (now (jumps .entry)) a (now (parcels .exit)) (now (labels .exit)) (now (jumps .exit)) ⌝ }
+{
+    settling::wipes::clear(state.at, state.labels, state.jumps, parcels, labels, jumps);
+    Answer::Refused(why)
+}
+
 // Once all rows are taken in and every loop is closed: the rows' refusal, or the waiting jumps in item order; a refusal leaves zeros in
 // what the rows took.
-pub fn finish(
+fn finish(
     rows: &[u32],
     names: &[u8],
     parcels: &mut [u16],
@@ -30,11 +48,11 @@ pub fn finish(
     let verdict = t.verdict;
     match verdict {
         Verdict::Refused(r) => {
-            return wipes::refused(r, state, parcels, labels, jumps);
+            return refused(r, state, parcels, labels, jumps);
         }
         Verdict::Good => {}
     }
-    let aims = jumps::aim_all(
+    let aims = settling::aim_all(
         rows,
         names,
         parcels,
@@ -44,7 +62,7 @@ pub fn finish(
         state.jumps,
     );
     match aims {
-        Verdict::Refused(r) => wipes::refused(r, state, parcels, labels, jumps),
+        Verdict::Refused(r) => refused(r, state, parcels, labels, jumps),
         Verdict::Good => Answer::Accepted(state.at as u32),
     }
 }
@@ -59,7 +77,7 @@ pub fn build(
     jumps: &mut [u32],
     loops: &mut [OpenLoop],
 ) -> Answer
-    ensures { λ r. ⌜ Left (buildOf (now (rows .entry)) (now (names .entry)) (now (parcels .entry)) (now (labels .entry)) (now (jumps .entry)) (now (loops .entry))) r (now (parcels .exit)) (now (labels .exit)) (now (jumps .exit)) (now (loops .exit)) ⌝ }
+    ensures { λ r. ⌜ Builds (now (rows .entry)) (now (names .entry)) (lentOf (now (parcels .entry)) (now (labels .entry)) (now (jumps .entry)) (now (loops .entry))) (answered r) (lentOf (now (parcels .exit)) (now (labels .exit)) (now (jumps .exit)) (now (loops .exit))) ⌝ }
 {
     let rooms = Rooms::of(parcels.len(), labels.len(), jumps.len(), loops.len());
     let taken = taking::take_rows(
@@ -82,14 +100,9 @@ pub fn build_alone(
     labels: &mut [u32],
     jumps: &mut [u32],
 ) -> Answer
-    ensures { λ r. ⌜ Left (buildOf (now (rows .entry)) (now (names .entry)) (now (parcels .entry)) (now (labels .entry)) (now (jumps .entry)) (replicate 64 zeroLoop)) r (now (parcels .exit)) (now (labels .exit)) (now (jumps .exit)) (buildOf (now (rows .entry)) (now (names .entry)) (now (parcels .entry)) (now (labels .entry)) (now (jumps .entry)) (replicate 64 zeroLoop) .K) ⌝ }
+    ensures { λ r. ⌜ BuildsAlone (now (rows .entry)) (now (names .entry)) (now (parcels .entry)) (now (labels .entry)) (now (jumps .entry)) (answered r) (now (parcels .exit)) (now (labels .exit)) (now (jumps .exit)) ⌝ }
 {
-    let zero = OpenLoop {
-        place: 0,
-        first: 0,
-        count: 0,
-        mode: 0,
-    };
+    let zero = ZERO_LOOP;
     let mut loops = [zero; 64];
     build(
         rows,
@@ -116,13 +129,8 @@ fn part(names: &[u8], start: usize, len: usize) -> &[u8]
 
 // The name of a refusal, 11, 12 or 28: that part of the names. Any other answer gives an empty part.
 pub fn refused_name(answer: Answer, names: &[u8]) -> &[u8]
-    ensures { λ r. ⌜ now r ≡ nameOf (now (names .entry)) answer ⌝ }
+    ensures { λ r. ⌜ HandsBack (now (names .entry)) answer (now r) ⌝ }
 {
-    match answer {
-        Answer::Accepted(_) => &names[0..0],
-        Answer::Refused(r) => {
-            let told = r.told();
-            part(names, told.start as usize, told.length as usize)
-        }
-    }
+    let told = refusals::answered(answer);
+    part(names, told.start as usize, told.length as usize)
 }

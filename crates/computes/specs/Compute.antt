@@ -1,18 +1,20 @@
 -- Document 01, "Field tables": the compute word (2a), the twelve single computes, and the multifunction.
 use Prim.Native.Nat.{ℕ, _/_, _%_}
-use mathlib.Core.Bool.{Bool, true, false, not}
+use mathlib.Core.Bool.{not}
 use mathlib.Core.List.{List, [], _∷_}
 use lib.Dec.{eqb}
-use Rattle.fields.specs.Pack.{Field, bits, pack}
+use Rattle.fields.specs.Pack.{Field, fixed, operand, pack}
 use Rattle.registers.specs.declared.Register.{Register}
-use Rattle.refusals.specs.declared.Refusal.{Refusal}
+use Rattle.refusals.specs.declared.Verdict.{Verdict}
+use Rattle.refusals.specs.declared.Verdict.the-variants.{Good, Refused}
+use Rattle.refusals.specs.Order.{when, first}
 use Rattle.refusals.specs.declared.Refusal.the-variants.{NotACompute, MultifunctionOperand, DuplicateDestination}
 use Rattle.items.specs.declared.AluOp.{AluOp}
 use Rattle.items.specs.declared.AluOp.the-variants.{Add, Sub}
+use Rattle.items.specs.declared.Compute.{Compute}
 use Rattle.items.specs.declared.FloatMulAlu.{FloatMulAlu}
 use Rattle.items.specs.declared.Instruction.{Instruction}
 use Rattle.items.specs.declared.VisaInstruction.{VisaInstruction}
-use Rattle.computes.specs.declared.Parts.{Parts}
 use Rattle.computes.specs.declared.SingleCompute.{SingleCompute}
 use Rattle.computes.specs.declared.Made.{Made}
 use Rattle.items.specs.declared.Instruction.the-variants as Scalar
@@ -22,16 +24,21 @@ use Rattle.computes.specs.declared.Made.the-variants as M
 
 -- "Compute word (2a): bit 40, 11111 in 37:33, field in 22:0"
 abbrev pub type2a : List Field → List Field
-type2a field = bits 47 41 0 ∷ bits 40 40 1 ∷ bits 39 38 0 ∷ bits 37 33 0b11111 ∷ bits 32 23 0 ∷ field
+type2a compute = fixed 47 41 0 ∷ fixed 40 40 1 ∷ fixed 39 38 0 ∷ fixed 37 33 0b11111 ∷ fixed 32 23 0 ∷ compute
 
 -- "Single: unit 21:20, opcode 19:12, rn 11:8, rx 7:4, ry 3:0"
 abbrev pub single : ℕ → ℕ → ℕ → ℕ → ℕ → List Field
-single unit opcode rn rx ry = bits 22 22 0 ∷ bits 21 20 unit ∷ bits 19 12 opcode ∷ bits 11 8 rn ∷ bits 7 4 rx ∷ bits 3 0 ry ∷ []
+single unit opcode rn rx ry = fixed 22 22 0 ∷ fixed 21 20 unit ∷ fixed 19 12 opcode ∷ operand 11 8 rn ∷ operand 7 4 rx ∷ operand 3 0 ry ∷ []
 
 -- "Multifunction: bit 22, opcode 18 or 19 (hex) in 21:16, product 15:12, ALU destination 11:8, then the two-bit offsets of the four inputs"
 abbrev pub multi : ℕ → ℕ → ℕ → ℕ → ℕ → ℕ → ℕ → List Field
 multi opcode product destination mulX mulY aluX aluY =
-    bits 22 22 1 ∷ bits 21 16 opcode ∷ bits 15 12 product ∷ bits 11 8 destination ∷ bits 7 6 mulX ∷ bits 5 4 mulY ∷ bits 3 2 aluX ∷ bits 1 0 aluY ∷ []
+    fixed 22 22 1 ∷ fixed 21 16 opcode ∷ operand 15 12 product ∷ operand 11 8 destination
+    ∷ operand 7 6 mulX ∷ operand 5 4 mulY ∷ operand 3 2 aluX ∷ operand 1 0 aluY ∷ []
+
+-- a compute's 23 bits as one number
+abbrev pub whole : ℕ → List Field
+whole field = operand 22 0 field ∷ []
 
 -- with two inputs; "Unary forms have ry 0"; with no destination: "rn 0", and 16 for the register that is none
 abbrev pub binary : ℕ → ℕ → Register → Register → Register → SingleCompute
@@ -90,13 +97,14 @@ partsOf (Visa.BitClearMode1 mask) = S.NotACompute
 partsOf Visa.Nop = S.NotACompute
 partsOf Visa.WideNop = S.NotACompute
 
--- the 23-bit field of a single compute
-abbrev pub fieldsOf : Parts → List Field
-fieldsOf p = single (p .unit) (p .opcode) (p .rn) (p .rx) (p .ry)
+-- the 23 bits of a single compute
+abbrev pub fieldsOf : SingleCompute → List Field
+fieldsOf (S.Compute p) = single (p .unit) (p .opcode) (p .rn) (p .rx) (p .ry)
+fieldsOf S.NotACompute = []
 
 -- `Compute::single`: 17 where there is no compute
 abbrev pub madeParts : SingleCompute → Made
-madeParts (S.Compute p) = M.Made record { field = pack (fieldsOf p); first = p .destination; second = 16 }
+madeParts (S.Compute p) = M.Made record { field = pack (fieldsOf (S.Compute p)); first = p .destination; second = 16 }
 madeParts S.NotACompute = M.Refused NotACompute
 
 unfoldable pub madeSingle : VisaInstruction → Made
@@ -107,25 +115,25 @@ abbrev pub opcodeOf : AluOp → ℕ
 opcodeOf Add = 0x18
 opcodeOf Sub = 0x19
 
--- the refusal where the test holds, else what follows
-abbrev pub refuse : Bool → Refusal → Made → Made
-refuse true refusal rest = M.Refused refusal
-refuse false refusal rest = rest
+-- the 23 bits of a multifunction: an input's offset is its number in its group of four
+abbrev pub multiFields : FloatMulAlu → List Field
+multiFields f = multi (opcodeOf (f .op)) (f .product .0) (f .«alu_dst» .0) (f .«mul_x» .0 % 4) (f .«mul_y» .0 % 4) (f .«alu_x» .0 % 4) (f .«alu_y» .0 % 4)
 
--- a register outside its group of four
-abbrev pub outside : ℕ → Register → Bool
-outside group r = not (eqb (r .0 / 4) group)
+-- an input outside its group of four
+abbrev pub outside : ℕ → Register → Verdict
+outside group r = when (not (eqb (r .0 / 4) group)) (MultifunctionOperand group (r .0))
 
--- `Compute::float_mul_alu`: inputs "in groups 0-3, 4-7, 8-11, 12-15", 18 in input order, then 19
+-- inputs "in groups 0-3, 4-7, 8-11, 12-15": 18 in input order, then 19
+abbrev pub multiRefusals : FloatMulAlu → List Verdict
+multiRefusals f =
+    outside 0 (f .«mul_x») ∷ outside 1 (f .«mul_y») ∷ outside 2 (f .«alu_x») ∷ outside 3 (f .«alu_y»)
+    ∷ when (eqb (f .product .0) (f .«alu_dst» .0)) (DuplicateDestination (f .product .0)) ∷ []
+
+-- the compute, or its first refusal
+abbrev pub madeBy : Verdict → Compute → Made
+madeBy Good compute = M.Made compute
+madeBy (Refused refusal) compute = M.Refused refusal
+
+-- `Compute::float_mul_alu`
 unfoldable pub madeMulti : FloatMulAlu → Made
-madeMulti f =
-    refuse (outside 0 (f .«mul_x»)) (MultifunctionOperand 0 (f .«mul_x» .0))
-    (refuse (outside 1 (f .«mul_y»)) (MultifunctionOperand 1 (f .«mul_y» .0))
-    (refuse (outside 2 (f .«alu_x»)) (MultifunctionOperand 2 (f .«alu_x» .0))
-    (refuse (outside 3 (f .«alu_y»)) (MultifunctionOperand 3 (f .«alu_y» .0))
-    (refuse (eqb (f .product .0) (f .«alu_dst» .0)) (DuplicateDestination (f .product .0))
-    (M.Made record {
-      field = pack (multi (opcodeOf (f .op)) (f .product .0) (f .«alu_dst» .0) (f .«mul_x» .0 % 4) (f .«mul_y» .0 % 4) (f .«alu_x» .0 % 4) (f .«alu_y» .0 % 4));
-      first = f .product .0;
-      second = f .«alu_dst» .0;
-    })))))
+madeMulti f = madeBy (first (multiRefusals f)) record { field = pack (multiFields f); first = f .product .0; second = f .«alu_dst» .0 }

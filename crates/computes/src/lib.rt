@@ -1,7 +1,8 @@
 // The 23-bit compute field: the twelve single computes, and the multiplication beside a sum or a difference.
 ghost use mathlib.Core.Path.{_≡_};
-ghost use Prim.Native.Nat.{_<_, _^_, _%_};
+ghost use Prim.Native.Nat.{_<_, _^_};
 ghost use Rattle.fields.specs.Pack.{pack};
+ghost use Rattle.computes.specs.declared.SingleCompute.the-variants as S;
 ghost use Rattle.computes.specs.Compute.{type2a, multi, binary, unary, compare, scalarParts, partsOf, fieldsOf, madeSingle, opcodeOf, madeMulti};
 use items::AluOp;
 use items::Compute;
@@ -130,8 +131,8 @@ pub fn single_parts(v: VisaInstruction) -> SingleCompute
 }
 
 // The 23-bit field of a single compute.
-pub fn single_field(p: Parts) -> u64
-    ensures { λ r. ⌜ (r ≡ pack (fieldsOf p)) × (r < 2 ^ 32) ⌝ }
+fn single_field(p: Parts) -> u64
+    ensures { λ r. ⌜ (r ≡ pack (fieldsOf (S.Compute p))) × (r < 2 ^ 32) ⌝ }
 {
     ((p.unit as u64) << 20)
         + ((p.opcode as u64) << 12)
@@ -142,7 +143,7 @@ pub fn single_field(p: Parts) -> u64
 
 // Type 2a: the word of a single compute.
 pub fn compute_word(p: Parts) -> u64
-    ensures { λ r. ⌜ r ≡ pack (type2a (fieldsOf p)) ⌝ }
+    ensures { λ r. ⌜ r ≡ pack (type2a (fieldsOf (S.Compute p))) ⌝ }
 {
     (0x13e << 32) + single_field(p)
 }
@@ -172,7 +173,7 @@ fn alu_opcode(op: AluOp) -> u8
     }
 }
 
-// The 23-bit field of a multiplication beside a sum or a difference, its inputs taken modulo their groups of four.
+// The 23-bit field of a multiplication beside a sum or a difference, of its inputs' offsets in their groups of four.
 pub fn multi_field(
     opcode: u8,
     product: u8,
@@ -182,16 +183,16 @@ pub fn multi_field(
     alu_x: u8,
     alu_y: u8,
 ) -> u64
-    ensures { λ r. ⌜ (r ≡ pack (multi opcode product destination («mul_x» % 4) («mul_y» % 4) («alu_x» % 4) («alu_y» % 4))) × (r < 2 ^ 32) ⌝ }
+    ensures { λ r. ⌜ (r ≡ pack (multi opcode product destination «mul_x» «mul_y» «alu_x» «alu_y»)) × (r < 2 ^ 32) ⌝ }
 {
     0x40_0000
         + ((opcode as u64) << 16)
         + ((product as u64) << 12)
         + ((destination as u64) << 8)
-        + ((mul_x as u64) % 4 << 6)
-        + ((mul_y as u64) % 4 << 4)
-        + ((alu_x as u64) % 4 << 2)
-        + (alu_y as u64) % 4
+        + ((mul_x as u64) << 6)
+        + ((mul_y as u64) << 4)
+        + ((alu_x as u64) << 2)
+        + (alu_y as u64)
 }
 
 // `Compute::float_mul_alu`: the multifunction compute, where its inputs stand in their groups and its destinations differ.
@@ -224,10 +225,10 @@ pub fn float_mul_alu(f: FloatMulAlu) -> Made
         alu_opcode(op),
         product,
         destination,
-        mul_x,
-        mul_y,
-        alu_x,
-        alu_y,
+        mul_x % 4,
+        mul_y % 4,
+        alu_x % 4,
+        alu_y % 4,
     );
     Made::Made(Compute {
         field: field as u32,

@@ -1,58 +1,62 @@
 -- What a build accepts, the parcel count counts alike: a row that the build takes in is read and encodes.
-use mathlib.Core.Path.{_≡_, refl, ap, _∙_}
+use mathlib.Core.Path.{_≡_, refl, sym, ap, _∙_}
 use mathlib.Core.Bool.{Bool, true, false}
 use mathlib.Core.List.{List}
 use Prim.Native.Nat.{ℕ}
 use native.Mathlib.Omega.{arith}
 use lib.ListN.{length}
-use Rattle.refusals.specs.declared.Verdict.{Verdict}
-use Rattle.refusals.specs.declared.Verdict.the-variants.{Good, Refused}
+use Rattle.refusals.specs.declared.Verdict.the-variants.{Good}
 use Rattle.refusals.specs.declared.Refusal.the-variants.{RowSlice}
-use Rattle.items.specs.declared.Item.the-variants.{Instruction, Label, Jump, LoopBegin, LoopEnd}
-use Rattle.rows.specs.declared.Read.{Read}
-use Rattle.rows.specs.declared.Read.the-variants as read
+use Rattle.refusals.specs.declared.Answer.the-variants as answer
+use Rattle.refusals.specs.declared.Told.{Told}
+use Rattle.refusals.specs.Numbers.{answerOf, answered}
+use Rattle.refusals.specs.Order.{first, firstOf}
+use Rattle.refusals.proofs.Numbered.{zero-accepts}
 use Rattle.rows.specs.Rows.{wellFormed}
+use Rattle.coded.specs.declared.Coded.{Coded}
+use Rattle.coded.specs.declared.Coded.the-variants as coded
 use Rattle.places.specs.declared.Rooms.{Rooms}
-use Rattle.places.specs.declared.Answer.the-variants as answer
-use Rattle.places.specs.declared.OpenLoop.{OpenLoop}
-use Rattle.places.specs.Items.{rowAt, rowsIn, place, roomsOf}
-use Rattle.places.specs.Build.{first, faults, firstOf, verdictAt, verdict, answerOf, buildOf}
-use Rattle.prefixes.proofs.Verdicts.{orElse-good, first-good, first-all, all-first, answer-good}
+use Rattle.places.specs.Items.{rowAt, rowsIn, place}
+use Rattle.places.specs.Verdict.{kernel, faults, verdictAt, verdict}
+use Rattle.places.specs.Left.{Lent, kernelOf, roomsIn, buildOf, Builds}
+use Rattle.prefixes.proofs.Verdicts.{orElse-good, first-good, first-all, all-first}
 use Rattle.counts.specs.declared.Counting.the-variants.{Parcels}
-use Rattle.counts.specs.declared.Counted.the-variants.{Count}
-use Rattle.counts.specs.Counts.{encodes, rowVerdict, countOf}
+use Rattle.counts.specs.Counts.{rowVerdict, countOf, Counts}
+use Rattle.counts.proofs.Tally.{answer-good}
 
-taken-encodes : (names : List ℕ) (it : ℕ → Read) (r : Rooms) (i : ℕ) (x : Read) → first (faults names it r i x) ≡ Good → rowVerdict encodes x ≡ Good
-taken-encodes names it r i (read.Item (Instruction v)) e = first-good (faults names it r i (read.Item (Instruction v))) e .1 .0
-taken-encodes names it r i (read.Item (Label a b)) e = refl
-taken-encodes names it r i (read.Item (Jump c a b)) e = refl
-taken-encodes names it r i (read.Item (LoopBegin c m)) e = refl
-taken-encodes names it r i (read.Item LoopEnd) e = refl
-taken-encodes names it r i (read.Refused why) e = first-good (faults names it r i (read.Refused why)) e .0
-
-accepted-count : (v : Verdict) (m : ℕ) {n : ℕ} → answerOf v m ≡ answer.Accepted n → m ≡ n
-accepted-count Good m e = cc
-accepted-count (Refused r) m e = let z : _≡_ {A = ℕ} 0 1 = cc in absurd (omega arith)
+taken-encodes : (names : List ℕ) (it : ℕ → Coded) (r : Rooms) (i : ℕ) (x : Coded) → first (faults names it r i x) ≡ Good → rowVerdict Parcels x ≡ Good
+taken-encodes names it r i (coded.Instruction y) e = first-good (faults names it r i (coded.Instruction y)) e .1 .0
+taken-encodes names it r i (coded.Label a b) e = refl
+taken-encodes names it r i (coded.Jump c a b) e = refl
+taken-encodes names it r i (coded.LoopBegin c m) e = refl
+taken-encodes names it r i coded.LoopEnd e = refl
+taken-encodes names it r i (coded.Refused why) e = first-good (faults names it r i (coded.Refused why)) e .0
 
 -- a good verdict of the build's leaves every row good
-rows-good : (names : List ℕ) (it : ℕ → Read) (n : ℕ) (p l j : List ℕ) (k : List OpenLoop) → verdict names it n p l j k ≡ Good → firstOf (λ i. rowVerdict encodes (it i)) n ≡ Good
-rows-good names it n p l j k e =
-    let rooms = roomsOf (length p) (length l) (length j) (length k) in
-    let all = first-all (verdictAt names it n p l j k) n (orElse-good (firstOf (verdictAt names it n p l j k) n) _ e .0) in
-    all-first (λ i. rowVerdict encodes (it i)) n (λ i h. taken-encodes names it rooms i (it i) (all i h))
+rows-good : (names : List ℕ) (it : ℕ → Coded) (n : ℕ) (rooms : Rooms) → verdict (kernel names it n) rooms ≡ Good → firstOf (λ i. rowVerdict Parcels (it i)) n ≡ Good
+rows-good names it n rooms e =
+    let all = first-all (verdictAt (kernel names it n) rooms) n (orElse-good (firstOf (verdictAt (kernel names it n) rooms) n) _ e .0) in
+    all-first (λ i. rowVerdict Parcels (it i)) n (λ i h. taken-encodes names it rooms i (it i) (all i h))
 
-module _ (rows names p l j : List ℕ) (k : List OpenLoop) where
-  pub verdict-agrees : wellFormed (length rows) ≡ true → verdict names (rowAt rows names) (rowsIn rows) p l j k ≡ Good → countOf Parcels rows names ≡ Count (place (rowAt rows names) (rowsIn rows))
-  verdict-agrees w e = rw (w, rows-good names (rowAt rows names) (rowsIn rows) p l j k e)
+module _ (rows names : List ℕ) (lent : Lent) where
+  pub verdict-agrees : wellFormed (length rows) ≡ true → verdict (kernelOf rows names) (roomsIn lent) ≡ Good → countOf Parcels rows names ≡ answer.Accepted (place (rowAt rows names) (rowsIn rows))
+  verdict-agrees w e = rw (w, rows-good names (rowAt rows names) (rowsIn rows) (roomsIn lent) e)
 
-  by-test : (w : Bool) → wellFormed (length rows) ≡ w → {n : ℕ} → buildOf rows names p l j k .answer ≡ answer.Accepted n → countOf Parcels rows names ≡ Count n
+  by-test : (w : Bool) → wellFormed (length rows) ≡ w → {n : ℕ} → buildOf rows names lent .answer ≡ answer.Accepted n → countOf Parcels rows names ≡ answer.Accepted n
   by-test true w {n} e =
-      let v = verdict names (rowAt rows names) (rowsIn rows) p l j k in
+      let v = verdict (kernelOf rows names) (roomsIn lent) in
       let m = place (rowAt rows names) (rowsIn rows) in
       let q : answerOf v m ≡ answer.Accepted n = rw w at e in
-      verdict-agrees w (answer-good v m n q) ∙ ap Count (accepted-count v m q)
+      let g = answer-good v m (sym q) in
+      verdict-agrees w (g .0) ∙ ap answer.Accepted (sym (g .1))
   by-test false w {n} e = let q : answer.Refused RowSlice ≡ answer.Accepted n = rw w at e in let z : _≡_ {A = ℕ} 0 1 = cc in absurd (omega arith)
 
   -- the count of an accepted build is the parcel count
-  pub count-agrees : {n : ℕ} → buildOf rows names p l j k .answer ≡ answer.Accepted n → countOf Parcels rows names ≡ Count n
+  pub count-agrees : {n : ℕ} → buildOf rows names lent .answer ≡ answer.Accepted n → countOf Parcels rows names ≡ answer.Accepted n
   count-agrees e = by-test (wellFormed (length rows)) refl e
+
+  -- what a build tells with number 0, the parcel count tells too
+  pub told-agrees : {told : Told} {left : Lent} → Builds rows names lent told left → told .number ≡ 0 → Counts Parcels rows names told
+  told-agrees b z =
+      let a = zero-accepts (buildOf rows names lent .answer) (sym (ap (λ (t : Told). t .number) (b .answer)) ∙ z) in
+      b .answer ∙ ap answered (a .1 ∙ sym (count-agrees (a .1)))

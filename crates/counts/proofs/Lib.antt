@@ -1,5 +1,4 @@
-pub mod Leaf
-pub mod Forms
 pub mod Tally
 pub mod Single
 pub mod Agree
+pub mod Numbers

@@ -1,65 +1,70 @@
 -- After i rows, all of them good, the count is their sum.
 use mathlib.Core.Path.{_≡_, refl, ap, _∙_}
+use mathlib.Core.Bool.{Bool, true, false, cond}
 use Prim.Native.Nat.{ℕ, _+_, _*_, _≤_, _<_}
 use native.Mathlib.Omega.{arith}
 use native.Mathlib.Numerals.{add-one}
 use borrow.Author.Count.{below-more}
+use lib.Dec.{eqb}
 use Rattle.refusals.specs.declared.Refusal.{Refusal}
 use Rattle.refusals.specs.declared.Verdict.{Verdict}
 use Rattle.refusals.specs.declared.Verdict.the-variants as verdict
-use Rattle.items.specs.declared.Item.the-variants.{Instruction, Label, Jump, LoopBegin, LoopEnd}
-use Rattle.encode.proofs.Sizes.{parcels-few}
-use Rattle.rows.specs.declared.Read.{Read}
-use Rattle.rows.specs.declared.Read.the-variants as read
+use Rattle.refusals.specs.declared.Answer.the-variants.{Accepted, Refused}
+use Rattle.refusals.specs.Numbers.{answerOf}
+use Rattle.refusals.specs.Order.{firstOf}
+use Rattle.encode.proofs.Sizes.{form-few}
+use Rattle.coded.specs.declared.Coded.{Coded}
+use Rattle.coded.specs.declared.Coded.the-variants as coded
 use Rattle.places.specs.Items.{total}
-use Rattle.places.specs.Build.{firstOf}
 use Rattle.prefixes.proofs.Verdicts.{AllPass, all-first, stop-first}
 use Rattle.counts.specs.declared.Counting.{Counting}
 use Rattle.counts.specs.declared.Counting.the-variants.{Parcels, Instructions}
-use Rattle.counts.specs.declared.Counted.the-variants.{Count, Refused}
-use Rattle.counts.specs.Counts.{counted, rowVerdict, verdictFor, amountFor}
-use Rattle.counts.proofs.Leaf.{issued-few}
+use Rattle.counts.specs.Counts.{rowVerdict, amount}
 
-amount-few : (what : Counting) (x : Read) → amountFor what x ≤ 6
-amount-few Parcels (read.Item (Instruction v)) = parcels-few v
-amount-few Parcels (read.Item (Label a b)) = omega arith
-amount-few Parcels (read.Item (Jump c a b)) = omega arith
-amount-few Parcels (read.Item (LoopBegin c m)) = omega arith
-amount-few Parcels (read.Item LoopEnd) = omega arith
-amount-few Parcels (read.Refused r) = omega arith
-amount-few Instructions (read.Item (Instruction v)) = omega (arith, issued-few v)
-amount-few Instructions (read.Item (Label a b)) = omega arith
-amount-few Instructions (read.Item (Jump c a b)) = omega arith
-amount-few Instructions (read.Item (LoopBegin c m)) = omega arith
-amount-few Instructions (read.Item LoopEnd) = omega arith
-amount-few Instructions (read.Refused r) = omega arith
+issued-few : (t : Bool) → cond t 4 1 ≤ 6
+issued-few true = omega arith
+issued-few false = omega arith
+
+amount-few : (what : Counting) (x : Coded) → amount what x ≤ 6
+amount-few Parcels (coded.Instruction y) = form-few (y .form)
+amount-few Parcels (coded.Label a b) = omega arith
+amount-few Parcels (coded.Jump c a b) = omega arith
+amount-few Parcels (coded.LoopBegin c m) = omega arith
+amount-few Parcels coded.LoopEnd = omega arith
+amount-few Parcels (coded.Refused r) = omega arith
+amount-few Instructions (coded.Instruction y) = issued-few (eqb (y .kind .number) 31)
+amount-few Instructions (coded.Label a b) = omega arith
+amount-few Instructions (coded.Jump c a b) = omega arith
+amount-few Instructions (coded.LoopBegin c m) = omega arith
+amount-few Instructions coded.LoopEnd = omega arith
+amount-few Instructions (coded.Refused r) = omega arith
 
 -- what an answer says of the verdict
-counted-good : (v : Verdict) (m : ℕ) {k : ℕ} → Count k ≡ counted v m → (v ≡ verdict.Good) × (k ≡ m)
-counted-good verdict.Good m e = (refl, cc)
-counted-good (verdict.Refused r) m e = let z : _≡_ {A = ℕ} 0 1 = cc in absurd (omega arith)
+pub answer-good : (v : Verdict) (m : ℕ) {k : ℕ} → Accepted k ≡ answerOf v m → (v ≡ verdict.Good) × (k ≡ m)
+answer-good verdict.Good m e = (refl, cc)
+answer-good (verdict.Refused r) m e = let z : _≡_ {A = ℕ} 0 1 = cc in absurd (omega arith)
 
-counted-refused : (v : Verdict) (m : ℕ) {r : Refusal} → Refused r ≡ counted v m → v ≡ verdict.Refused r
-counted-refused verdict.Good m e = let z : _≡_ {A = ℕ} 0 1 = cc in absurd (omega arith)
-counted-refused (verdict.Refused q) m e = cc
+answer-refused : (v : Verdict) (m : ℕ) {r : Refusal} → Refused r ≡ answerOf v m → v ≡ verdict.Refused r
+answer-refused verdict.Good m e = let z : _≡_ {A = ℕ} 0 1 = cc in absurd (omega arith)
+answer-refused (verdict.Refused q) m e = cc
 
 -- a row's verdict
-abbrev pub row : Counting → (ℕ → Read) → ℕ → Verdict
-row what it k = rowVerdict (verdictFor what) (it k)
+abbrev pub row : Counting → (ℕ → Coded) → ℕ → Verdict
+row what it k = rowVerdict what (it k)
 
 -- what holds after i rows
-pub record Tallying (what : Counting) (it : ℕ → Read) (n i count : ℕ) : Type 0 where
+pub record Tallying (what : Counting) (it : ℕ → Coded) (n i count : ℕ) : Type 0 where
   pub few : n ≤ 4194304
   pub within : i ≤ n
   pub good : AllPass (row what it) i
-  pub here : count ≡ total (amountFor what) it i
+  pub here : count ≡ total (amount what) it i
   pub small : count ≤ 6 * i
 
-module _ {what : Counting} {it : ℕ → Read} {n i count : ℕ} (g : Tallying what it n i count) where
+module _ {what : Counting} {it : ℕ → Coded} {n i count : ℕ} (g : Tallying what it n i count) where
   module _ (l : i < n) where
-    pub tally-next : {k : ℕ} → Count k ≡ counted (row what it i) (amountFor what (it i)) → Tallying what it n (i + 1) (count + k)
+    pub tally-next : {k : ℕ} → Accepted k ≡ answerOf (row what it i) (amount what (it i)) → Tallying what it n (i + 1) (count + k)
     tally-next e =
-        let q = counted-good (row what it i) (amountFor what (it i)) e in
+        let q = answer-good (row what it i) (amount what (it i)) e in
         record {
           few = g .few;
           within = omega arith;
@@ -68,13 +73,13 @@ module _ {what : Counting} {it : ℕ → Read} {n i count : ℕ} (g : Tallying w
           small = omega (arith, q .1, amount-few what (it i), g .small);
         }
 
-    pub tally-fits : {k : ℕ} → Count k ≡ counted (row what it i) (amountFor what (it i)) → count + k < 4294967296
+    pub tally-fits : {k : ℕ} → Accepted k ≡ answerOf (row what it i) (amount what (it i)) → count + k < 4294967296
     tally-fits e = omega (arith, tally-next e .small, g .few)
 
-    pub tally-stop : {r : Refusal} → Refused r ≡ counted (row what it i) (amountFor what (it i)) → firstOf (row what it) n ≡ verdict.Refused r
-    tally-stop {r} e = stop-first (row what it) n (record { row = i; why = r; before = l; fails = counted-refused _ (amountFor what (it i)) e; earlier = g .good })
+    pub tally-stop : {r : Refusal} → Refused r ≡ answerOf (row what it i) (amount what (it i)) → firstOf (row what it) n ≡ verdict.Refused r
+    tally-stop {r} e = stop-first (row what it) n (record { row = i; why = r; before = l; fails = answer-refused _ (amount what (it i)) e; earlier = g .good })
 
-  pub tally-end : n ≤ i → (firstOf (row what it) n ≡ verdict.Good) × (count ≡ total (amountFor what) it n)
+  pub tally-end : n ≤ i → (firstOf (row what it) n ≡ verdict.Good) × (count ≡ total (amount what) it n)
   tally-end h =
       let e : i ≡ n = omega (arith, g .within) in
-      (all-first (row what it) n (λ k l. g .good k (omega arith)), g .here ∙ ap (λ (k : ℕ). total (amountFor what) it k) e)
+      (all-first (row what it) n (λ k l. g .good k (omega arith)), g .here ∙ ap (λ (k : ℕ). total (amount what) it k) e)

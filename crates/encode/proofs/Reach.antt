@@ -2,23 +2,22 @@
 -- The difference of two places is tested as a signed number; its two ends are said of the places.
 use Prim.Native.Nat.{ℕ, zero, suc, _+_, _-_, _≤_, _<_}
 use native.Mathlib.Omega.{arith}
-use mathlib.Core.Path.{_≡_, refl, _∙_}
+use mathlib.Core.Path.{_≡_, refl}
 use mathlib.Core.Logic.{_↔_}
 use mathlib.Core.Bool.{Bool, true, false, not, _&&_}
 use lib.IntN.{ℤ, pos, negsuc, _-ℤ_}
-use lib.Dec.{ltb, leb, eqb}
+use lib.Dec.{ltb, leb}
 use borrow.Author.Tests.{ltb-true, ltb-false, leb-true, le-leb, eqb-false, ne-eqb, not-false}
 use Rattle.signs.specs.Signs.{within}
 use Rattle.items.specs.declared.Condition.{Condition}
 use Rattle.items.specs.declared.LoopCount.{LoopCount}
 use Rattle.items.specs.declared.LoopCount.the-variants.{Immediate, Register}
 use Rattle.items.specs.declared.LoopMode.{LoopMode}
-use Rattle.refusals.specs.declared.Refusal.{Refusal}
-use Rattle.refusals.specs.declared.Refusal.the-variants.{BranchOutOfRange, LoopOutOfRange, LoopCountZero}
 use Rattle.refusals.specs.declared.Verdict.the-variants.{Good}
-use Rattle.encode.specs.declared.Form.{Form}
 use Rattle.encode.specs.declared.Form.the-variants.{Word}
-use Rattle.encode.specs.Encoding.{refuse, formVerdict, jumpForm, loopForm}
+use Rattle.encode.specs.Layouts.{jumpLayout, loopLayout}
+use Rattle.encode.specs.Encoding.{formVerdict, jumpForm, loopForm}
+use Rattle.encode.proofs.Passed.{test-failed, failed-test, good-passed, good-word, passed-good}
 
 -- ---- a difference of two places, from -(h + 1) to h
 and-true : (t : Bool) → (t && true) ≡ t
@@ -41,14 +40,6 @@ within-apart h a (suc b) = go (ltb a (suc b)) refl
         let l = ltb-false a (suc b) e in
         rw e ((λ t. let u = leb-true (a - suc b) h t in omega arith), (λ r. le-leb (a - suc b) h (let u = r .1 in omega arith)))
 
--- ---- a form that may be refused
-refuse-good : (t : Bool) (r : Refusal) (f : Form) → formVerdict (refuse t r f) ≡ Good → (t ≡ false) × (formVerdict f ≡ Good) × (refuse t r f ≡ f)
-refuse-good true r f e = let z : _≡_ {A = ℕ} 0 1 = cc in absurd (omega arith)
-refuse-good false r f e = (refl, e, refl)
-
-good-refuse : (t : Bool) (r : Refusal) (f : Form) → t ≡ false → formVerdict f ≡ Good → formVerdict (refuse t r f) ≡ Good
-good-refuse t r f p q = rw p q
-
 no-not : (t : Bool) → t ≡ true → not t ≡ false
 no-not t e = rw e
 
@@ -56,36 +47,36 @@ no-not t e = rw e
 pub jump-reach : (c : Condition) (a b : ℕ) (d : Bool) → formVerdict (jumpForm c (pos a -ℤ pos b) d) ≡ Good ↔ ((b ≤ a + 0x80_0000) × (a < b + 0x80_0000))
 unfolding jumpForm
 jump-reach c a b d =
+    let l = jumpLayout c (pos a -ℤ pos b) d in
     let w = within-apart 0x7f_ffff a b in (
-      (λ e. let r = w .0 (not-false _ (refuse-good _ _ _ e .0)) in omega arith),
-      (λ r. good-refuse _ _ _ (no-not _ (w .1 (omega arith))) refl),
+      (λ e. let r = w .0 (not-false _ (test-failed _ _ (good-passed l e .0))) in omega arith),
+      (λ r. passed-good l (failed-test _ _ (no-not _ (w .1 (omega arith))), tt)),
     )
 
 pub jump-word : (c : Condition) (z : ℤ) (d : Bool) → formVerdict (jumpForm c z d) ≡ Good → (w : ℕ) × (jumpForm c z d ≡ Word w)
 unfolding jumpForm
-jump-word c z d e = (_, refuse-good (not (within (negsuc 0x7f_ffff) (pos 0x7f_ffff) z)) (BranchOutOfRange z) _ e .2)
+jump-word c z d e = (_, good-word (jumpLayout c z d) e)
 
 -- a loop's offset, from -0x400000 to 0x3fffff, and its count
 pub loop-reach : (c : LoopCount) (m : LoopMode) (a b : ℕ) → formVerdict (loopForm c m (pos a -ℤ pos b)) ≡ Good ↔ ((b ≤ a + 0x40_0000) × (a < b + 0x40_0000) × (c ≡ Immediate 0 → ⊥))
 unfolding loopForm
 loop-reach (Immediate n) m a b =
+    let l = loopLayout (Immediate n) m (pos a -ℤ pos b) in
     let w = within-apart 0x3f_ffff a b in (
       (λ e.
-          let g = refuse-good _ _ _ e in
-          let r = w .0 (not-false _ (g .0)) in
-          let q = eqb-false n 0 (refuse-good _ _ _ (g .1) .0) in
-          (omega arith, omega arith, λ z. q (let y : n ≡ 0 = cc in y))),
-      (λ r. good-refuse _ _ _ (no-not _ (w .1 (let u = r .0 in let v = r .1 in omega arith))) (good-refuse _ _ _ (ne-eqb n 0 (λ z. r .2 (rw z))) refl)),
+          let p = good-passed l e in
+          let r = w .0 (not-false _ (test-failed _ _ (p .0))) in
+          (omega arith, omega arith, λ z. eqb-false n 0 (test-failed _ _ (p .1 .0)) (let y : n ≡ 0 = cc in y))),
+      (λ r. passed-good l (failed-test _ _ (no-not _ (w .1 (let u = r .0 in let v = r .1 in omega arith))), (failed-test _ _ (ne-eqb n 0 (λ z. r .2 (rw z))), tt))),
     )
-loop-reach (Register r) m a b =
+loop-reach (Register u) m a b =
+    let l = loopLayout (Register u) m (pos a -ℤ pos b) in
     let w = within-apart 0x3f_ffff a b in (
-      (λ e. let r = w .0 (not-false _ (refuse-good _ _ _ e .0)) in (omega arith, omega arith, λ z. let y : _≡_ {A = ℕ} 0 1 = cc in omega arith)),
-      (λ r. good-refuse _ _ _ (no-not _ (w .1 (let u = r .0 in let v = r .1 in omega arith))) refl),
+      (λ e. let r = w .0 (not-false _ (test-failed _ _ (good-passed l e .0))) in (omega arith, omega arith, λ z. let y : _≡_ {A = ℕ} 0 1 = cc in omega arith)),
+      (λ r. passed-good l (failed-test _ _ (no-not _ (w .1 (let u = r .0 in let v = r .1 in omega arith))), (refl, tt))),
     )
 
 pub loop-word : (c : LoopCount) (m : LoopMode) (z : ℤ) → formVerdict (loopForm c m z) ≡ Good → (w : ℕ) × (loopForm c m z ≡ Word w)
 unfolding loopForm
-loop-word (Immediate n) m z e =
-    let g = refuse-good (not (within (negsuc 0x3f_ffff) (pos 0x3f_ffff) z)) (LoopOutOfRange z) (refuse (eqb n 0) LoopCountZero _) e in
-    (_, g .2 ∙ refuse-good (eqb n 0) LoopCountZero _ (g .1) .2)
-loop-word (Register r) m z e = (_, refuse-good (not (within (negsuc 0x3f_ffff) (pos 0x3f_ffff) z)) (LoopOutOfRange z) _ e .2)
+loop-word (Immediate n) m z e = (_, good-word (loopLayout (Immediate n) m z) e)
+loop-word (Register r) m z e = (_, good-word (loopLayout (Register r) m z) e)

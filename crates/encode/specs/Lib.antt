@@ -1,2 +1,4 @@
-pub mod Rules
+pub mod Registers
+pub mod Refusals
+pub mod Layouts
 pub mod Encoding

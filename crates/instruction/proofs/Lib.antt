@@ -1,3 +1,3 @@
+pub mod Others
 pub mod Single
-pub mod Few
-pub mod Cut
+pub mod Numbers

@@ -1,42 +1,49 @@
 -- Document 01, "Rooms and what is left": one instruction's parcels.
 use Prim.Native.Nat.{ℕ}
-use mathlib.Core.List.{List}
+use mathlib.Core.Path.{_≡_}
+use mathlib.Core.List.{List, _∷_, _++_}
 use mathlib.Core.Bool.{Bool, cond, _&&_}
 use lib.Dec.{eqb, leb}
-use lib.ListN.{length, replicate}
-use Rattle.refusals.specs.declared.Refusal.{Refusal}
+use lib.ListN.{length}
 use Rattle.refusals.specs.declared.Refusal.the-variants.{RowSlice, Row}
-use Rattle.refusals.specs.declared.Verdict.the-variants as verdict
-use Rattle.items.specs.declared.Item.{Item}
-use Rattle.items.specs.declared.Item.the-variants.{Instruction, Label, Jump, LoopBegin, LoopEnd}
-use Rattle.encode.specs.declared.Encoded.{Encoded}
-use Rattle.encode.specs.Encoding.{encodedOf}
+use Rattle.refusals.specs.declared.Told.{Told}
+use Rattle.refusals.specs.Numbers.{answerOf, answered, reading, encoding}
+use Rattle.encode.specs.declared.Form.{Form}
+use Rattle.encode.specs.declared.Form.the-variants as form
+use Rattle.encode.specs.Encoding.{formParcels, formVerdict, padded}
 use Rattle.bounds.specs.Tables.{at}
-use Rattle.rows.specs.declared.Read.{Read}
-use Rattle.rows.specs.declared.Read.the-variants as read
-use Rattle.rows.specs.Rows.{readOf}
+use Rattle.rows.specs.Rows.{rowWidth, readOf}
+use Rattle.coded.specs.declared.Coded.{Coded}
+use Rattle.coded.specs.declared.Coded.the-variants.{Instruction, Label, Jump, LoopBegin, LoopEnd, Refused}
+use Rattle.coded.specs.Coded.{codedOf}
+use Rattle.instruction.specs.declared.Parcels.{Parcels}
 
--- "refused: all zero"
-abbrev pub refusedFor : Refusal → Encoded
-refusedFor refusal = record { verdict = verdict.Refused refusal; count = 0; places = replicate 6 0 }
-
--- the parcels of an instruction; any other item is 2
-abbrev pub itemEncoded : Item → Encoded
-itemEncoded (Instruction v) = encodedOf v
-itemEncoded (Label start length) = refusedFor Row
-itemEncoded (Jump condition start length) = refusedFor Row
-itemEncoded (LoopBegin count mode) = refusedFor Row
-itemEncoded LoopEnd = refusedFor Row
-
-abbrev pub readEncoded : Read → Encoded
-readEncoded (read.Item item) = itemEncoded item
-readEncoded (read.Refused refusal) = refusedFor refusal
+-- the form of an instruction; any other item is 2
+abbrev pub heldForm : Coded → Form
+heldForm (Instruction x) = x .form
+heldForm (Label start length) = form.Refused Row
+heldForm (Jump condition start length) = form.Refused Row
+heldForm (LoopBegin count mode) = form.Refused Row
+heldForm LoopEnd = form.Refused Row
+heldForm (Refused refusal) = form.Refused refusal
 
 -- labels, jumps, loop starts and loop ends
 abbrev pub isMark : ℕ → Bool
 isMark kind = leb 48 kind && leb kind 51
 
 -- "a slice that isn't 17 long is refusal 1, kinds 48 to 51 are 2"
-unfoldable pub instructionOf : List ℕ → Encoded
-instructionOf row =
-    cond (eqb (length row) 17) (cond (isMark (at row 0)) (refusedFor Row) (readEncoded (readOf row 0))) (refusedFor RowSlice)
+unfoldable pub formAt : List ℕ → Form
+formAt row =
+    cond (eqb (length row) rowWidth) (cond (isMark (at row 0)) (form.Refused Row) (heldForm (codedOf (readOf row 0)))) (form.Refused RowSlice)
+
+-- "count and six places, unused ones zero; refused: all zero"
+abbrev pub formAnswer : Form → Parcels
+formAnswer f = record { told = answered (answerOf (formVerdict f) (length (formParcels f))); places = padded (formParcels f) }
+
+-- THE CONTRACT of one instruction: what is told of a row, in document 01's numbers, and the six places
+abbrev pub Encodes : List ℕ → Told → List ℕ → Type 0
+Encodes row told places = (told ≡ formAnswer (formAt row) .told) × (places ≡ formAnswer (formAt row) .places)
+
+-- the numbers it may tell, but 0
+abbrev pub instructionNumbers : List ℕ
+instructionNumbers = 1 ∷ reading ++ encoding

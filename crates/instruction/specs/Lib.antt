@@ -1,2 +1,1 @@
 pub mod Instruction
-pub mod Entry

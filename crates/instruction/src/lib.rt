@@ -1,31 +1,52 @@
 // One instruction's parcels from its row.
 ghost use mathlib.Core.Path.{_≡_};
-ghost use Rattle.instruction.specs.Instruction.{refusedFor, isMark, instructionOf};
-ghost use Rattle.instruction.specs.Entry.{EntryEncoded};
-use encode::Encoded;
-use entries::Entry;
+ghost use Rattle.refusals.specs.Numbers.{answerOf};
+ghost use Rattle.instruction.specs.Instruction.{heldForm, isMark, formAt, formAnswer, Encodes};
+use coded::Coded;
+use encode::Form;
+use refusals::Answer;
 use refusals::Refusal;
+use refusals::Told;
 use refusals::Verdict;
 
-// A refused instruction: no parcels, and all six places zero.
-fn refused(refusal: Refusal) -> Encoded
-    ensures { λ r. ⌜ r ≡ refusedFor refusal ⌝ }
+// One instruction's answer in numbers, and the six places, of which the unused ones are zero.
+pub struct Parcels {
+    pub told: Told,
+    pub places: [u16; 6],
+}
+
+// A count where the verdict is good, else the refusal.
+fn answer_of(verdict: Verdict, count: u32) -> Answer
+    ensures { λ r. ⌜ r ≡ answerOf verdict count ⌝ }
 {
-    Encoded {
-        verdict: Verdict::Refused(refusal),
-        count: 0,
-        places: [0; 6],
+    match verdict {
+        Verdict::Good => Answer::Accepted(count),
+        Verdict::Refused(refusal) => Answer::Refused(refusal),
     }
 }
 
-// The parcels of an entry that is an instruction's; any other item is refused.
-fn entry_parcels(entry: Entry) -> Encoded
-    ensures { λ r. ⌜ EntryEncoded entry r ⌝ }
+// A form's parcels; a refused one has none, and all six places are zero.
+fn form_answer(f: Form) -> Parcels
+    ensures { λ r. ⌜ r ≡ formAnswer f ⌝ }
 {
-    match entry {
-        Entry::Instruction(form, _, _) => encode::cut_form(form),
-        Entry::Refused(refusal) => refused(refusal),
-        _ => refused(Refusal::Row),
+    let cut = encode::cut_form(f);
+    let verdict = cut.verdict;
+    let count = cut.count as u32;
+    let places = cut.places;
+    Parcels {
+        told: refusals::answered(answer_of(verdict, count)),
+        places,
+    }
+}
+
+// The form of what is an instruction; any other item is refused.
+fn held_form(coded: Coded) -> Form
+    ensures { λ r. ⌜ r ≡ heldForm coded ⌝ }
+{
+    match coded {
+        Coded::Instruction(coding) => coding.form,
+        Coded::Refused(refusal) => Form::Refused(refusal),
+        _ => Form::Refused(Refusal::Row),
     }
 }
 
@@ -36,16 +57,23 @@ fn is_mark(kind: u32) -> bool
     48 <= kind && kind <= 51
 }
 
-// The parcels of the instruction that a row holds, as a count and six places, of which the unused ones are zero. A refused row,
-// a slice that is no row and a row that holds no instruction leave all six zero.
-pub fn instruction(row: &[u32]) -> Encoded
-    ensures { λ r. ⌜ r ≡ instructionOf (now (row .entry)) ⌝ }
+// The form of the instruction that a row holds; a slice that is no row, and a row that holds no instruction, are refused.
+fn form_at(row: &[u32]) -> Form
+    ensures { λ r. ⌜ r ≡ formAt (now (row .entry)) ⌝ }
 {
-    if row.len() != 17 {
-        return refused(Refusal::RowSlice);
+    if row.len() != rows::ROW_WIDTH {
+        return Form::Refused(Refusal::RowSlice);
     }
     if is_mark(row[0]) {
-        return refused(Refusal::Row);
+        return Form::Refused(Refusal::Row);
     }
-    entry_parcels(entries::row_entry(row, 0))
+    held_form(coded::coded_row(row, 0))
+}
+
+// The parcels of the instruction that a row holds, as a count and six places, of which the unused ones are zero. A refused row,
+// a slice that is no row and a row that holds no instruction leave all six zero.
+pub fn instruction(row: &[u32]) -> Parcels
+    ensures { λ r. ⌜ Encodes (now (row .entry)) (r .told) (r .places) ⌝ }
+{
+    form_answer(form_at(row))
 }

@@ -1,6 +1,6 @@
 // The Rust's types by value: what a row stands for.
 ghost use mathlib.Core.Path.{_≡_};
-ghost use Rattle.items.specs.Kinds.{isBranch};
+ghost use Rattle.items.specs.Kinds.{scalarKind, kindOf, isBranch, hasSlots, issued};
 use registers::IndexRegister;
 use registers::ModifyRegister;
 use registers::Register;
@@ -263,37 +263,107 @@ pub enum Item {
     LoopEnd,
 }
 
-impl VisaInstruction {
-    // Whether it changes the flow, and so may not stand in a loop body.
-    pub fn is_branch(self) -> bool
-        ensures { λ r. ⌜ r ≡ isBranch self ⌝ }
-    {
-        match self {
-            VisaInstruction::Scalar(_) => false,
-            VisaInstruction::Transfer { .. } => false,
-            VisaInstruction::LoadImmediate { .. } => false,
-            VisaInstruction::ModifyIndex { .. } => false,
-            VisaInstruction::LoadDmPostModify { .. } => false,
-            VisaInstruction::StoreDmPostModify { .. } => false,
-            VisaInstruction::LoadDmPreModify { .. } => false,
-            VisaInstruction::StoreDmPreModify { .. } => false,
-            VisaInstruction::LoadDmOffset { .. } => false,
-            VisaInstruction::StoreDmOffset { .. } => false,
-            VisaInstruction::IntegerSubOne { .. } => false,
-            VisaInstruction::IntegerPass { .. } => false,
-            VisaInstruction::IntegerCompareUnsigned { .. } => false,
-            VisaInstruction::JumpRelative { .. } => true,
-            VisaInstruction::CJump { .. } => true,
-            VisaInstruction::PushImmediate { .. } => false,
-            VisaInstruction::LeafReturn => true,
-            VisaInstruction::Compute(_) => false,
-            VisaInstruction::DualMove { .. } => false,
-            VisaInstruction::MemoryMove { .. } => false,
-            VisaInstruction::StoreImmediate { .. } => false,
-            VisaInstruction::BitSetMode1 { .. } => false,
-            VisaInstruction::BitClearMode1 { .. } => false,
-            VisaInstruction::Nop => false,
-            VisaInstruction::WideNop => false,
-        }
+// The kind of an instruction as document 01 numbers it, and whether it is a delayed `JumpRelative`.
+pub struct Kind {
+    pub number: u8,
+    pub delayed: bool,
+}
+
+// The kind of a scalar operation: 0 to 12.
+fn scalar_kind(i: Instruction) -> u8
+    ensures { λ r. ⌜ r ≡ scalarKind i ⌝ }
+{
+    match i {
+        Instruction::FloatAdd { .. } => 0,
+        Instruction::FloatSub { .. } => 1,
+        Instruction::FloatMul { .. } => 2,
+        Instruction::FloatMin { .. } => 3,
+        Instruction::FloatMax { .. } => 4,
+        Instruction::FloatNeg { .. } => 5,
+        Instruction::FloatAbs { .. } => 6,
+        Instruction::IntegerSub { .. } => 7,
+        Instruction::FloatPass { .. } => 8,
+        Instruction::LoadImmediate { .. } => 9,
+        Instruction::Move { .. } => 10,
+        Instruction::LoadDm { .. } => 11,
+        Instruction::StoreDm { .. } => 12,
     }
+}
+
+// The number of an instruction's kind.
+fn kind_number(v: VisaInstruction) -> u8
+    ensures { λ r. ⌜ r ≡ kindOf v .number ⌝ }
+{
+    match v {
+        VisaInstruction::Scalar(i) => scalar_kind(i),
+        VisaInstruction::Transfer { .. } => 16,
+        VisaInstruction::LoadImmediate { .. } => 17,
+        VisaInstruction::ModifyIndex { .. } => 18,
+        VisaInstruction::LoadDmPostModify { .. } => 19,
+        VisaInstruction::StoreDmPostModify { .. } => 20,
+        VisaInstruction::LoadDmPreModify { .. } => 21,
+        VisaInstruction::StoreDmPreModify { .. } => 22,
+        VisaInstruction::LoadDmOffset { .. } => 23,
+        VisaInstruction::StoreDmOffset { .. } => 24,
+        VisaInstruction::IntegerSubOne { .. } => 25,
+        VisaInstruction::IntegerPass { .. } => 26,
+        VisaInstruction::IntegerCompareUnsigned { .. } => 27,
+        VisaInstruction::JumpRelative { .. } => 28,
+        VisaInstruction::CJump { .. } => 29,
+        VisaInstruction::PushImmediate { .. } => 30,
+        VisaInstruction::LeafReturn => 31,
+        VisaInstruction::Compute(_) => 32,
+        VisaInstruction::DualMove { .. } => 33,
+        VisaInstruction::MemoryMove { .. } => 34,
+        VisaInstruction::StoreImmediate { .. } => 35,
+        VisaInstruction::BitSetMode1 { .. } => 36,
+        VisaInstruction::BitClearMode1 { .. } => 37,
+        VisaInstruction::Nop => 38,
+        VisaInstruction::WideNop => 39,
+    }
+}
+
+// Whether it is a delayed `JumpRelative`.
+fn is_delayed(v: VisaInstruction) -> bool
+    ensures { λ r. ⌜ r ≡ kindOf v .delayed ⌝ }
+{
+    match v {
+        VisaInstruction::JumpRelative {
+            condition: _,
+            offset: _,
+            delayed,
+        } => delayed,
+        _ => false,
+    }
+}
+
+// The kind of an instruction.
+pub fn kind_of(v: VisaInstruction) -> Kind
+    ensures { λ r. ⌜ r ≡ kindOf v ⌝ }
+{
+    Kind {
+        number: kind_number(v),
+        delayed: is_delayed(v),
+    }
+}
+
+// Whether it changes the flow, and so may not stand in a loop body.
+pub fn is_branch(k: Kind) -> bool
+    ensures { λ r. ⌜ r ≡ isBranch k ⌝ }
+{
+    k.number == 28 || (k.number == 29 || k.number == 31)
+}
+
+// Whether two slots follow it.
+pub fn has_slots(k: Kind) -> bool
+    ensures { λ r. ⌜ r ≡ hasSlots k ⌝ }
+{
+    k.number == 29 || k.number == 28 && k.delayed
+}
+
+// How many instructions it counts for.
+pub fn issued(k: Kind) -> u32
+    ensures { λ r. ⌜ r ≡ issued k ⌝ }
+{
+    if k.number == 31 { 4 } else { 1 }
 }

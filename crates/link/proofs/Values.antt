@@ -1,7 +1,7 @@
 -- An answer in numbers, as a plain value.
-use Rattle.writer.proofs.Parts.{Value, structValue}
-use Rattle.link.proofs.Told as told
-use Rattle.link.proofs.Told.Laws as told-laws
+use Rattle.walks.proofs.Parts.{Value, structValue}
+use Rattle.refusals.proofs.Told as told
+use Rattle.refusals.proofs.Told.Laws as told-laws
 
 abbrev pub told-value : Value told.the-row
 told-value = structValue told.the-type told-laws.the-laws told-laws.the-plain

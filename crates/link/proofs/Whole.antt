@@ -1,12 +1,9 @@
--- From the build's contract to that of the call in numbers.
-use mathlib.Core.Path.{_≡_, _∙_, ap}
+-- What is told is the build's answer in numbers.
+use mathlib.Core.Path.{_≡_, sym, subst}
 use mathlib.Core.List.{List}
 use Prim.Native.Nat.{ℕ}
-use Rattle.places.specs.declared.Answer.{Answer}
-use Rattle.places.specs.declared.OpenLoop.{OpenLoop}
-use Rattle.places.specs.Build.{Out, Left}
-use Rattle.link.specs.declared.Told.{Told}
-use Rattle.link.specs.Told.{answeredAs, Built}
+use Rattle.refusals.specs.declared.Told.{Told}
+use Rattle.places.specs.Left.{Lent, Builds}
 
-pub told-is : {o : Out} {a : Answer} {t : Told} {p l j : List ℕ} {k : List OpenLoop} → Left o a p l j k → t ≡ answeredAs a → Built o t p l j k
-told-is e f = record { answer = f ∙ ap answeredAs (e .answer); parcels = e .parcels; labels = e .labels; jumps = e .jumps; loops = e .loops }
+pub told-is : {rows names : List ℕ} {lent left : Lent} {s t : Told} → Builds rows names lent s left → t ≡ s → Builds rows names lent t left
+told-is {rows} {names} {lent} {left} b e = subst (λ (t : Told). Builds rows names lent t left) (sym e) b

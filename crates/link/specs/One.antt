@@ -1,22 +1,11 @@
--- One instruction's answer in numbers: document 01's refusal number and details, the count and the six places.
+-- One instruction's answer as C has it: what is told, but for a name's range, which no answer of this call has, and the six places.
 use Prim.Native.Nat.{ℕ}
 use mathlib.Core.List.{List}
-use lib.IntN.{pos}
-use Rattle.refusals.specs.declared.Verdict.{Verdict}
-use Rattle.refusals.specs.declared.Verdict.the-variants.{Good, Refused}
-use Rattle.refusals.specs.Numbers.{toldOf}
-use Rattle.encode.specs.declared.Encoded.{Encoded}
-use Rattle.instruction.specs.Instruction.{instructionOf}
+use Rattle.refusals.specs.declared.Told.{Told}
 use Rattle.link.specs.declared.One.{One}
 
--- number 0 where the instruction is accepted
-abbrev pub numbered : Verdict → ℕ → List ℕ → One
-numbered Good count places = record { number = 0; count = count; first = pos 0; second = pos 0; places = places }
-numbered (Refused refusal) count places =
-    record { number = toldOf refusal .number; count = count; first = toldOf refusal .first; second = toldOf refusal .second; places = places }
+abbrev pub oneOf : Told → List ℕ → One
+oneOf t places = record { number = t .number; count = t .count; first = t .first; second = t .second; places = places }
 
-abbrev pub oneFor : Encoded → One
-oneFor encoded = numbered (encoded .verdict) (encoded .count) (encoded .places)
-
-unfoldable pub oneOf : List ℕ → One
-oneOf row = oneFor (instructionOf row)
+abbrev pub toldIn : One → Told
+toldIn one = record { number = one .number; count = one .count; first = one .first; second = one .second; start = 0; length = 0 }

@@ -1,72 +1,55 @@
 -- What it says that a row's checks are passed: each of its tests came out false.
 use mathlib.Core.Path.{_≡_, refl}
-use mathlib.Core.Bool.{Bool, true, false, _&&_}
+use mathlib.Core.Bool.{Bool, false, _&&_}
 use mathlib.Core.List.{List, [], _∷_}
 use Prim.Native.Nat.{ℕ, _+_, _≤_, _<_}
 use native.Mathlib.Omega.{arith}
-use lib.ListN.{length}
 use lib.Dec.{ltb}
 use borrow.Author.Tests.{ltb-false, eqb-false}
 use Rattle.refusals.specs.declared.Refusal.{Refusal}
 use Rattle.refusals.specs.declared.Verdict.{Verdict}
 use Rattle.refusals.specs.declared.Verdict.the-variants.{Good, Refused}
+use Rattle.refusals.specs.Order.{when, orElse, first, ifGood}
 use Rattle.items.specs.Kinds.{isBranch}
-use Rattle.items.specs.declared.VisaInstruction.{VisaInstruction}
-use Rattle.encode.specs.declared.Form.{Form}
-use Rattle.encode.specs.Encoding.{parcelsOf, verdictOf, formParcels, formVerdict}
+use Rattle.encode.specs.Encoding.{formVerdict}
+use Rattle.coded.specs.declared.Coding.{Coding}
 use Rattle.places.specs.declared.OpenLoop.{OpenLoop}
 use Rattle.places.specs.declared.Rooms.{Rooms}
-use Rattle.places.specs.Build.{when, orElse, first, ifGood}
+use Rattle.places.specs.Items.{sizeOf}
+use Rattle.prefixes.proofs.Tests.{true-false}
+use Rattle.prefixes.proofs.Verdicts.{when-good, orElse-good}
+use Rattle.tables.specs.declared.Sought.{Sought}
+use Rattle.tables.specs.declared.Sought.the-variants.{At, Nowhere}
+use Rattle.tables.specs.Tables.{lookup, isThere}
 use Rattle.machine.specs.declared.State.{State}
 use Rattle.machine.specs.declared.Step.{Step}
 use Rattle.machine.specs.declared.Step.the-variants.{Stop}
-use Rattle.machine.specs.declared.Sought.{Sought}
-use Rattle.machine.specs.declared.Sought.the-variants.{At, Nowhere}
-use Rattle.machine.specs.Machine.{isThere, lookup, instructionChk, formChk, labelChk, jumpChk, beginChk, endChk, tailShort, topForm, stepBy}
+use Rattle.machine.specs.Machine.{tailShort, topForm, instructionChk, labelChk, jumpChk, beginChk, endChk, stepBy}
 
-pub never-good : {r : Refusal} → Refused r ≡ Good → ⊥
-never-good e = let z : _≡_ {A = ℕ} 0 1 = cc in omega arith
-
-pub both-good : (v w : Verdict) → orElse v w ≡ Good → (v ≡ Good) × (w ≡ Good)
-both-good Good w e = (refl, e)
-both-good (Refused r) w e = absurd (never-good e)
-
-pub unmet : (t : Bool) (r : Refusal) (w : Verdict) → orElse (when t r) w ≡ Good → (t ≡ false) × (w ≡ Good)
-unmet true r w e = absurd (never-good e)
-unmet false r w e = (refl, e)
+-- a test, and what follows it
+unmet : (t : Bool) (r : Refusal) (w : Verdict) → orElse (when t r) w ≡ Good → (t ≡ false) × (w ≡ Good)
+unmet t r w e = let g = orElse-good (when t r) w e in (when-good t r (g .0), g .1)
 
 pub last-one : (v : Verdict) → first (v ∷ []) ≡ v
 last-one Good = refl
 last-one (Refused r) = refl
 
 pub nowhere : (f : Sought) → isThere f ≡ false → f ≡ Nowhere
-nowhere (At p) e = let z : _≡_ {A = ℕ} 0 1 = cc in absurd (omega arith)
+nowhere (At p) e = absurd (true-false refl e)
 nowhere Nowhere e = refl
 
 -- ---- each kind of row
-pub record InstructionGood (s : State) (r : Rooms) (v : VisaInstruction) : Type 0 where
-  pub outside : (isBranch v && ltb 0 (s .depth)) ≡ false
-  pub encodes : verdictOf v ≡ Good
-  pub parcels : s .at + length (parcelsOf v) ≤ r .parcels
+pub record InstructionGood (s : State) (r : Rooms) (c : Coding) : Type 0 where
+  pub outside : (isBranch (c .kind) && ltb 0 (s .depth)) ≡ false
+  pub encodes : formVerdict (c .form) ≡ Good
+  pub parcels : s .at + sizeOf (c .form) ≤ r .parcels
 
-pub instruction-good : (s : State) (r : Rooms) (v : VisaInstruction) → instructionChk s r v ≡ Good → InstructionGood s r v
-instruction-good s r v e =
-    let a = unmet _ _ _ e in
-    let b = both-good _ _ (a .1) in
-    let c = unmet _ _ _ (b .1) in
-    record { outside = a .0; encodes = b .0; parcels = ltb-false _ _ (c .0) }
-
-pub record FormGood (s : State) (r : Rooms) (f : Form) (branch : Bool) : Type 0 where
-  pub outside : (branch && ltb 0 (s .depth)) ≡ false
-  pub encodes : formVerdict f ≡ Good
-  pub parcels : s .at + length (formParcels f) ≤ r .parcels
-
-pub form-good : (s : State) (r : Rooms) (f : Form) (branch : Bool) → formChk s r f branch ≡ Good → FormGood s r f branch
-form-good s r f branch e =
-    let a = unmet _ _ _ e in
-    let b = both-good _ _ (a .1) in
-    let c = unmet _ _ _ (b .1) in
-    record { outside = a .0; encodes = b .0; parcels = ltb-false _ _ (c .0) }
+pub instruction-good : (s : State) (r : Rooms) (c : Coding) → instructionChk s r c ≡ Good → InstructionGood s r c
+instruction-good s r c e =
+    let x = unmet _ _ _ e in
+    let y = orElse-good _ _ (x .1) in
+    let z = unmet _ _ _ (y .1) in
+    record { outside = x .0; encodes = y .0; parcels = ltb-false _ _ (z .0) }
 
 pub record LabelGood (names : List ℕ) (s : State) (r : Rooms) (ls : List ℕ) (a b : ℕ) : Type 0 where
   pub outside : s .depth ≤ 0
@@ -118,7 +101,7 @@ end-good s top e =
     let b = unmet _ _ _ (a .1) in
     let c = unmet _ _ _ (b .1) in
     let d = unmet _ _ _ (c .1) in
-    let f = both-good _ _ (d .1) in
+    let f = orElse-good _ _ (d .1) in
     record { inside = some _ (eqb-false _ _ (a .0)); body = eqb-false _ _ (b .0); alone = eqb-false _ _ (c .0); tail = d .0; reaches = f .0 }
 
 -- ---- what the step and a buffer come to, once the checks' verdict is known

@@ -1,4 +1,2 @@
-pub mod Searches
 pub mod Checks
-pub mod Encodings
 pub mod Steps

@@ -3,54 +3,44 @@ use mathlib.Core.Path.{_≡_, refl}
 use mathlib.Core.List.{List}
 use Prim.Native.Nat.{ℕ}
 use Rattle.refusals.specs.declared.Refusal.{Refusal}
-use Rattle.items.specs.declared.VisaInstruction.{VisaInstruction}
 use Rattle.items.specs.declared.Condition.{Condition}
 use Rattle.items.specs.declared.LoopCount.{LoopCount}
 use Rattle.items.specs.declared.LoopMode.{LoopMode}
-use Rattle.items.specs.declared.Item.the-variants.{Instruction, Label, Jump, LoopBegin, LoopEnd}
-use Rattle.rows.specs.declared.Read.{Read}
-use Rattle.rows.specs.declared.Read.the-variants as read
-use Rattle.entries.specs.Entries.{entryOf}
+use Rattle.coded.specs.declared.Coding.{Coding}
+use Rattle.coded.specs.declared.Coded.{Coded}
+use Rattle.coded.specs.declared.Coded.the-variants as coded
+use Rattle.coded.specs.declared.Coded.the-variants.{Instruction, Label, Jump, LoopBegin, LoopEnd}
 use Rattle.places.specs.declared.OpenLoop.{OpenLoop}
 use Rattle.places.specs.declared.Rooms.{Rooms}
 use Rattle.machine.specs.declared.State.{State}
 use Rattle.machine.specs.declared.Step.{Step}
 use Rattle.machine.specs.declared.Step.the-variants.{Stop}
-use Rattle.machine.specs.Machine.{Instructed, Labelled, Jumped, Begun, Ended, Stepped, ReadFine, EntryFine, instructionChk, labelChk, jumpChk, beginChk, endChk}
+use Rattle.machine.specs.Machine.{instructionChk, labelChk, jumpChk, beginChk, endChk, Instructed, Labelled, Jumped, Begun, Ended, Stepped}
 use Rattle.machine.proofs.Checks.{same-either}
 
-module _ {names : List ℕ} {r : Rooms} {x : Read} {row : ℕ} {s : State} {p l j : List ℕ} {top : OpenLoop} {y : Step} where
-  pub step-instruction : {v : VisaInstruction} {p′ : List ℕ} → x ≡ read.Item (Instruction v) → Instructed s r v p y p′ → Stepped names r x row s p l j top y p′ l j
+module _ {names : List ℕ} {r : Rooms} {x : Coded} {row : ℕ} {s : State} {p l j : List ℕ} {top : OpenLoop} {y : Step} where
+  pub step-instruction : {v : Coding} {p′ : List ℕ} → x ≡ Instruction v → Instructed s r v p y p′ → Stepped names r x row s p l j top y p′ l j
   step-instruction {v} e h =
       let c = instructionChk s r v in
       rw e (record { answer = h .answer; parcels = h .parcels; labels = same-either c _; jumps = same-either c _ })
 
-  pub step-label : {a b : ℕ} {l′ : List ℕ} → x ≡ read.Item (Label a b) → Labelled names s r l a b y l′ → Stepped names r x row s p l j top y p l′ j
+  pub step-label : {a b : ℕ} {l′ : List ℕ} → x ≡ Label a b → Labelled names s r l a b y l′ → Stepped names r x row s p l j top y p l′ j
   step-label {a} {b} e h =
       let c = labelChk names s r l a b in
       rw e (record { answer = h .answer; parcels = same-either c _; labels = h .labels; jumps = same-either c _ })
 
-  pub step-jump : {q : Condition} {a b : ℕ} {p′ j′ : List ℕ} → x ≡ read.Item (Jump q a b) → Jumped s r row p j y p′ j′ → Stepped names r x row s p l j top y p′ l j′
+  pub step-jump : {q : Condition} {a b : ℕ} {p′ j′ : List ℕ} → x ≡ Jump q a b → Jumped s r row p j y p′ j′ → Stepped names r x row s p l j top y p′ l j′
   step-jump e h = rw e (record { answer = h .answer; parcels = h .parcels; labels = same-either (jumpChk s r) _; jumps = h .jumps })
 
-  pub step-begin : {q : LoopCount} {t : LoopMode} {p′ : List ℕ} → x ≡ read.Item (LoopBegin q t) → Begun s r q t p y p′ → Stepped names r x row s p l j top y p′ l j
+  pub step-begin : {q : LoopCount} {t : LoopMode} {p′ : List ℕ} → x ≡ LoopBegin q t → Begun s r q t p y p′ → Stepped names r x row s p l j top y p′ l j
   step-begin e h =
       let c = beginChk s r in
       rw e (record { answer = h .answer; parcels = h .parcels; labels = same-either c _; jumps = same-either c _ })
 
-  pub step-end : {p′ : List ℕ} → x ≡ read.Item LoopEnd → Ended s top p y p′ → Stepped names r x row s p l j top y p′ l j
+  pub step-end : {p′ : List ℕ} → x ≡ LoopEnd → Ended s top p y p′ → Stepped names r x row s p l j top y p′ l j
   step-end e h =
       let c = endChk s top in
       rw e (record { answer = h .answer; parcels = h .parcels; labels = same-either c _; jumps = same-either c _ })
 
-  pub step-refused : {why : Refusal} → x ≡ read.Refused why → y ≡ Stop why → Stepped names r x row s p l j top y p l j
+  pub step-refused : {why : Refusal} → x ≡ coded.Refused why → y ≡ Stop why → Stepped names r x row s p l j top y p l j
   step-refused e h = rw e (record { answer = h; parcels = refl; labels = refl; jumps = refl })
-
--- an entry is fine where what it was read from is
-pub entry-fine : (ns : List ℕ) (rd : Read) → ReadFine ns rd → EntryFine ns (entryOf rd)
-entry-fine ns (read.Item (Instruction v)) h = h
-entry-fine ns (read.Item (Label a b)) h = h
-entry-fine ns (read.Item (Jump c a b)) h = h
-entry-fine ns (read.Item (LoopBegin c m)) h = h
-entry-fine ns (read.Item LoopEnd) h = h
-entry-fine ns (read.Refused why) h = h

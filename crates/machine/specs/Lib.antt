@@ -1,4 +1,3 @@
 pub mod Machine
-pub mod Scan
 pub mod Fold
 pub mod Finish

@@ -1,15 +1,14 @@
-// Loop records as numbers, and the words that waited as zeros.
+// Loop records as numbers, and a form's parcels put into the lent ones.
 ghost use mathlib.Core.Path.{_≡_};
 ghost use Prim.Native.Nat.{_+_, _≤_};
 ghost use lib.ListN.{length};
 ghost use lib.Seq.{sets};
 ghost use Rattle.encode.specs.Encoding.{formParcels, formVerdict};
-ghost use Rattle.places.specs.Build.{settled};
+ghost use Rattle.encode.specs.Encoding.{settled};
 ghost use Rattle.machine.specs.Machine.{countNumber, countFrom, modeNumber, modeFrom};
 use encode::Form;
 use items::LoopCount;
 use items::LoopMode;
-use refusals::Verdict;
 use registers::UniversalRegister;
 
 // A loop count as a number: an immediate count as itself, a register's code past 65536.
@@ -52,32 +51,6 @@ pub fn mode_from(n: u32) -> LoopMode
     LoopMode::F1Active
 }
 
-// Whether a word encodes, or why not.
-pub fn form_verdict(form: Form) -> Verdict
-    ensures { λ r. ⌜ r ≡ formVerdict form ⌝ }
-{
-    match form {
-        Form::Short(_) => Verdict::Good,
-        Form::Pair(_) => Verdict::Good,
-        Form::Word(_) => Verdict::Good,
-        Form::Leaf => Verdict::Good,
-        Form::Refused(r) => Verdict::Refused(r),
-    }
-}
-
-// How many parcels a form is.
-pub fn form_size(form: Form) -> usize
-    ensures { λ r. ⌜ (r ≡ length (formParcels form)) × (r ≤ 6) ⌝ }
-{
-    match form {
-        Form::Short(_) => 1,
-        Form::Pair(_) => 2,
-        Form::Word(_) => 3,
-        Form::Leaf => 6,
-        Form::Refused(_) => 0,
-    }
-}
-
 // The parcels of a form stand at `at`. The answer is the place past them.
 pub fn put_form(parcels: &mut [u16], at: usize, form: Form) -> usize
     requires { ⌜ at + length (formParcels form) ≤ length (now parcels) ⌝ }
@@ -118,18 +91,5 @@ pub fn put_form(parcels: &mut [u16], at: usize, form: Form) -> usize
             6,
         ),
         Form::Refused(_) => at,
-    }
-}
-
-// The three parcels of a word that waited as zeros.
-pub fn settled(form: Form) -> [u16; 3]
-    ensures { λ r. ⌜ r ≡ settled form ⌝ }
-{
-    match form {
-        Form::Short(_) => [0; 3],
-        Form::Pair(_) => [0; 3],
-        Form::Word(w) => fields::full_word_parcels(w),
-        Form::Leaf => [0; 3],
-        Form::Refused(_) => [0; 3],
     }
 }

@@ -8,7 +8,7 @@ use lib.ListN.{length, getD, set, take, drop, length-set, length-append}
 use lib.Seq.{take-suc, drop-cons, set-at, take-all, length-take-le}
 use borrow.Author.Tests.{lt-ltb, le-ltb}
 use Rattle.refusals.specs.declared.Refusal.the-variants.{NoRoomForBytes}
-use Rattle.parcel_bytes.specs.Bytes.{lowFirst, toBytes, Left}
+use Rattle.parcel_bytes.specs.Bytes.{toldBytes, lowFirst, Writes}
 use Rattle.parcel_bytes.specs.declared.Written.the-variants.{Bytes, Refused}
 
 low-append : (a b : List ℕ) → lowFirst (a ++ b) ≡ lowFirst a ++ lowFirst b
@@ -36,8 +36,10 @@ pub record Writing (parcels bytes₀ : List ℕ) (i : ℕ) (bytes : List ℕ) : 
   pub lent : length bytes ≡ length bytes₀
   pub here : bytes ≡ lowFirst (take i parcels) ++ drop (2 * i) bytes₀
 
-pub none-written : (ps bs : List ℕ) → length bs < 2 * length ps → Left (toBytes ps bs) (Refused (NoRoomForBytes (length bs))) bs
-none-written ps bs h = rw (lt-ltb _ _ h) (record { answer = refl; bytes = refl })
+pub none-written : (ps bs : List ℕ) → length bs < 2 * length ps → Writes ps bs (toldBytes (Refused (NoRoomForBytes (length bs)))) bs
+none-written ps bs h =
+    let short = lt-ltb (length bs) (2 * length ps) h in
+    record { told = rw short; bytes = rw short }
 
 module _ {ps bs : List ℕ} {i : ℕ} {b : List ℕ} (w : Writing ps bs i b) where
   pub writing-next : i < length ps → Writing ps bs (i + 1) (set (set b (2 * i) (getD ps i 0 % 256)) (2 * i + 1) (getD ps i 0 / 256))
@@ -52,8 +54,8 @@ module _ {ps bs : List ℕ} {i : ℕ} {b : List ℕ} (w : Writing ps bs i b) whe
             ∙ sym (rw (twice i, add-one i, take-suc ps i 0 h, low-append)));
       }
 
-  pub writing-end : length ps ≤ i → Left (toBytes ps bs) (Bytes (2 * length ps)) b
+  pub writing-end : length ps ≤ i → Writes ps bs (toldBytes (Bytes (2 * length ps))) b
   writing-end h =
-      rw (le-ltb _ _ (w .room))
-      (let e : i ≡ length ps = omega (arith, w .within) in
-      record { answer = refl; bytes = w .here ∙ rw (e, take-all (length ps) ps (omega arith)) })
+      let room = le-ltb (length bs) (2 * length ps) (w .room) in
+      let e : i ≡ length ps = omega (arith, w .within) in
+      record { told = rw room; bytes = rw room (w .here ∙ rw (e, take-all (length ps) ps (omega arith))) }

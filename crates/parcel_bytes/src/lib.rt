@@ -1,6 +1,6 @@
 // Parcels as bytes, low byte first.
 ghost use mathlib.Core.Path.{_≡_};
-ghost use Rattle.parcel_bytes.specs.Bytes.{toBytes, Left};
+ghost use Rattle.parcel_bytes.specs.Bytes.{toldBytes, Writes};
 use refusals::Refusal;
 
 // How many bytes were written, or why none.
@@ -9,10 +9,44 @@ pub enum Written {
     Refused(Refusal),
 }
 
+// The same in numbers: 0 and the bytes written; or a refusal's number with its detail and no bytes.
+#[repr(C)]
+pub struct ToldBytes {
+    pub bytes: u64,
+    pub first: i64,
+    pub number: u32,
+    pub spare: u32,
+}
+
+impl Written {
+    // The answer in numbers.
+    pub fn told(self) -> ToldBytes
+        ensures { λ r. ⌜ r ≡ toldBytes self ⌝ }
+    {
+        match self {
+            Written::Bytes(bytes) => ToldBytes {
+                bytes,
+                first: 0,
+                number: 0,
+                spare: 0,
+            },
+            Written::Refused(refusal) => {
+                let told = refusal.told();
+                ToldBytes {
+                    bytes: 0,
+                    first: told.first,
+                    number: told.number,
+                    spare: 0,
+                }
+            }
+        }
+    }
+}
+
 // The parcels' bytes at the front of the lent ones, low byte first, and their number; the bytes after them stay as they were.
 // With fewer bytes than twice the parcels nothing is written.
 pub fn parcels_to_bytes(parcels: &[u16], bytes: &mut [u8]) -> Written
-    ensures { λ r. ⌜ Left (toBytes (now (parcels .entry)) (now (bytes .entry))) r (now (bytes .exit)) ⌝ }
+    ensures { λ r. ⌜ Writes (now (parcels .entry)) (now (bytes .entry)) (toldBytes r) (now (bytes .exit)) ⌝ }
 {
     let n = parcels.len();
     if bytes.len() / 2 < n {

@@ -4,14 +4,17 @@ use mathlib.Core.Path.{_≡_, refl, ap₂, _∙_}
 use mathlib.Core.Bool.{false}
 use mathlib.Core.List.{List}
 use lib.ListN.{length, length-append}
-use Rattle.items.specs.declared.Item.the-variants.{Instruction, Label, Jump, LoopBegin, LoopEnd}
+use Rattle.coded.specs.declared.Coded.the-variants.{Instruction, Label, Jump, LoopBegin, LoopEnd}
 use Rattle.encode.specs.declared.Form.{Form}
 use Rattle.encode.specs.declared.Form.the-variants as form
 use Rattle.encode.specs.Encoding.{jumpForm, loopForm}
-use Rattle.rows.specs.declared.Read.{Read}
-use Rattle.rows.specs.declared.Read.the-variants.{Item, Refused}
+use Rattle.coded.specs.declared.Coded.{Coded}
+use Rattle.coded.specs.declared.Coded.the-variants.{Refused}
 use Rattle.places.specs.Items.{size, place}
-use Rattle.places.specs.Build.{Found, at, nothing, settled, labelled, jumpOffset, loopOffset, jumpParcels, closer, loopParcels, left, gather}
+use Rattle.places.specs.Looking.{Found, at, nothing, labelled, closer}
+use Rattle.encode.specs.Encoding.{settled}
+use Rattle.places.specs.Verdict.{jumpOffset, loopOffset}
+use Rattle.places.specs.Left.{jumpParcels, loopParcels, left, gather}
 
 pub settled-three : (f : Form) → length (settled f) ≡ 3
 settled-three (form.Short w) = refl
@@ -20,21 +23,21 @@ settled-three (form.Word w) = refl
 settled-three form.Leaf = refl
 settled-three (form.Refused r) = refl
 
-module _ (names : List ℕ) (it : ℕ → Read) (n : ℕ) where
-  pub emits : (i : ℕ) (x : Read) → length (left names it n i x .parcels) ≡ size x
-  emits i (Item (Instruction v)) = refl
-  emits i (Item (Label a b)) = refl
-  emits i (Item (Jump c a b)) = go (labelled names it a b n)
+module _ (names : List ℕ) (it : ℕ → Coded) (n : ℕ) where
+  pub emits : (i : ℕ) (x : Coded) → length (left names it n i x .parcels) ≡ size x
+  emits i (Instruction v) = refl
+  emits i (Label a b) = refl
+  emits i (Jump c a b) = go (labelled names it a b n)
     where
-      go : (f : Found) → length (jumpParcels names it c i f) ≡ 3
-      go (at row) = settled-three (jumpForm c (jumpOffset names it row i) false)
+      go : (f : Found) → length (jumpParcels it c i f) ≡ 3
+      go (at row) = settled-three (jumpForm c (jumpOffset it row i) false)
       go nothing = refl
-  emits i (Item (LoopBegin c m)) = go (closer names it n i)
+  emits i (LoopBegin c m) = go (closer it n i)
     where
-      go : (f : Found) → length (loopParcels names it c m i f) ≡ 3
-      go (at e) = settled-three (loopForm c m (loopOffset names it e i))
+      go : (f : Found) → length (loopParcels it c m i f) ≡ 3
+      go (at e) = settled-three (loopForm c m (loopOffset it e i))
       go nothing = refl
-  emits i (Item LoopEnd) = refl
+  emits i LoopEnd = refl
   emits i (Refused r) = refl
 
   pub place-emitted : (i : ℕ) → length (gather (λ q. left names it n q (it q) .parcels) i) ≡ place it i

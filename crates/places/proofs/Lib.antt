@@ -1,1 +1,4 @@
 pub mod Emitted
+pub mod Single
+pub mod Starred
+pub mod Traps

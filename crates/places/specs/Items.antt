@@ -1,33 +1,23 @@
 -- The items of a list, and what is counted over the first i of them.
-use mathlib.Core.Path.{_≡_}
-use mathlib.Core.Bool.{Bool, true, false, _&&_, not}
+use mathlib.Core.Bool.{Bool, true, false, not}
 use mathlib.Core.List.{List}
-use Prim.Native.Nat.{ℕ, zero, suc, _+_, _-_, _*_, _/_, _≤_}
-use lib.ListN.{length, getD, take, drop}
-use lib.Dec.{ltb, eqb}
-use Rattle.items.specs.declared.Item.{Item}
-use Rattle.items.specs.declared.Item.the-variants.{Instruction, Label, Jump, LoopBegin, LoopEnd}
-use Rattle.encode.specs.Encoding.{parcelsOf}
-use Rattle.rows.specs.declared.Read.{Read}
-use Rattle.rows.specs.declared.Read.the-variants as read
-use Rattle.rows.specs.Rows.{readOf}
+use Prim.Native.Nat.{ℕ, zero, suc, _+_, _-_, _*_, _/_, min}
+use lib.ListN.{length, take, drop}
+use lib.Dec.{eqb}
+use Rattle.encode.specs.declared.Form.{Form}
+use Rattle.encode.specs.Encoding.{formParcels}
+use Rattle.rows.specs.Rows.{rowWidth, readOf}
+use Rattle.coded.specs.declared.Coded.{Coded}
+use Rattle.coded.specs.declared.Coded.the-variants.{Instruction, Label, Jump, LoopBegin, LoopEnd, Refused}
+use Rattle.coded.specs.Coded.{codedOf}
 use Rattle.places.specs.declared.Rooms.{Rooms}
 
--- the first where the test holds, else the second
-abbrev pub pick : {A : Type 0} → Bool → A → A → A
-pick true a b = a
-pick false a b = b
-
-abbrev pub oneIf : Bool → ℕ
-oneIf true = 1
-oneIf false = 0
-
--- what row i of a slice says
-abbrev pub rowAt : List ℕ → List ℕ → ℕ → Read
-rowAt rows names i = readOf (take 17 (drop (i * 17) rows)) (length names)
+-- what row i of a slice comes to, and how many rows it has
+abbrev pub rowAt : List ℕ → List ℕ → ℕ → Coded
+rowAt rows names i = codedOf (readOf (take rowWidth (drop (i * rowWidth) rows)) (length names))
 
 abbrev pub rowsIn : List ℕ → ℕ
-rowsIn rows = length rows / 17
+rowsIn rows = length rows / rowWidth
 
 -- what an item counts for: its parcels; 1 if it is an instruction entry, a label, a waiting jump, an instruction
 -- that does not take three parcels, a loop start, a loop end; its name's start and length
@@ -45,56 +35,83 @@ pub record Traits : Type 0 where
 abbrev pub traits : ℕ → ℕ → ℕ → ℕ → ℕ → ℕ → ℕ → ℕ → ℕ → Traits
 traits s e l j n o c a b = record { size = s; entry = e; label = l; jump = j; short = n; opens = o; closes = c; start = a; len = b }
 
+abbrev pub oneIf : Bool → ℕ
+oneIf true = 1
+oneIf false = 0
+
+abbrev pub sizeOf : Form → ℕ
+sizeOf f = length (formParcels f)
+
 -- "Labels emit nothing. Jumps and loop starts take three parcels."
-abbrev pub aboutItem : Item → Traits
-aboutItem (Instruction v) = traits (length (parcelsOf v)) 1 0 0 (oneIf (not (eqb (length (parcelsOf v)) 3))) 0 0 0 0
-aboutItem (Label a b) = traits 0 0 1 0 0 0 0 a b
-aboutItem (Jump c a b) = traits 3 1 0 1 0 0 0 a b
-aboutItem (LoopBegin c m) = traits 3 1 0 0 0 1 0 0 0
-aboutItem LoopEnd = traits 0 0 0 0 0 0 1 0 0
+abbrev pub about : Coded → Traits
+about (Instruction c) = traits (sizeOf (c .form)) 1 0 0 (oneIf (not (eqb (sizeOf (c .form)) 3))) 0 0 0 0
+about (Label a b) = traits 0 0 1 0 0 0 0 a b
+about (Jump c a b) = traits 3 1 0 1 0 0 0 a b
+about (LoopBegin c m) = traits 3 1 0 0 0 1 0 0 0
+about LoopEnd = traits 0 0 0 0 0 0 1 0 0
+about (Refused r) = traits 0 0 0 0 0 0 0 0 0
 
-abbrev pub about : Read → Traits
-about (read.Item x) = aboutItem x
-about (read.Refused r) = traits 0 0 0 0 0 0 0 0 0
-
-abbrev pub size : Read → ℕ
+abbrev pub size : Coded → ℕ
 size x = about x .size
 
-abbrev pub isEntry : Read → ℕ
+abbrev pub isEntry : Coded → ℕ
 isEntry x = about x .entry
 
-abbrev pub isLabel : Read → ℕ
+abbrev pub isLabel : Coded → ℕ
 isLabel x = about x .label
 
-abbrev pub isJump : Read → ℕ
+abbrev pub isJump : Coded → ℕ
 isJump x = about x .jump
 
+abbrev pub isEnd : Coded → Bool
+isEnd x = eqb (about x .closes) 1
+
+abbrev pub isShort : Coded → Bool
+isShort x = eqb (about x .short) 1
+
 -- how many of the first i items, or how much of them
-abbrev pub total : (Read → ℕ) → (ℕ → Read) → ℕ → ℕ
+abbrev pub total : (Coded → ℕ) → (ℕ → Coded) → ℕ → ℕ
 total f it zero = 0
 total f it (suc i) = total f it i + f (it i)
 
 -- the place of item i: the parcels of the items before it
-abbrev pub place : (ℕ → Read) → ℕ → ℕ
+abbrev pub place : (ℕ → Coded) → ℕ → ℕ
 place it i = total size it i
 
+-- the address of a place, and of item i: what offsets and label entries speak of
+abbrev pub addressOf : ℕ → ℕ
+addressOf place = place
+
+abbrev pub address : (ℕ → Coded) → ℕ → ℕ
+address it i = addressOf (place it i)
+
 -- how many instruction entries stand before item i
-abbrev pub entries : (ℕ → Read) → ℕ → ℕ
+abbrev pub entries : (ℕ → Coded) → ℕ → ℕ
 entries it i = total isEntry it i
 
 -- how many loops are open before item i
-abbrev pub nest : (ℕ → Read) → ℕ → ℕ
+abbrev pub nest : (ℕ → Coded) → ℕ → ℕ
 nest it zero = 0
 nest it (suc i) = nest it i + about (it i) .opens - about (it i) .closes
 
--- the n bytes of the names at a and at b are the same
-abbrev pub sameFrom : List ℕ → ℕ → ℕ → ℕ → Bool
-sameFrom names zero a b = true
-sameFrom names (suc n) a b = eqb (getD names a 0) (getD names b 0) && sameFrom names n (suc a) (suc b)
+-- "Label entries (start, length, place) and waiting jumps (place, row)": the numbers of an entry
+abbrev pub labelWidth : ℕ
+labelWidth = 3
 
-abbrev pub least : ℕ → ℕ → ℕ
-least a b = pick (ltb a b) a b
+abbrev pub jumpWidth : ℕ
+jumpWidth = 2
 
--- of the lent lengths: three numbers a label, two a jump; and the limits
+-- "Parcels: the lent length, at most 16,777,216. Label entries .. and waiting jumps ..: lent length over 3 and over 2, rounded down,
+-- at most 4,096 each. The open loops .., at most 64."
+abbrev pub mostParcels : ℕ
+mostParcels = 16777216
+
+abbrev pub mostEntries : ℕ
+mostEntries = 4096
+
+abbrev pub mostLoops : ℕ
+mostLoops = 64
+
 abbrev pub roomsOf : ℕ → ℕ → ℕ → ℕ → Rooms
-roomsOf p l j k = record { parcels = least p 16777216; labels = least (l / 3) 4096; jumps = least (j / 2) 4096; loops = least k 64 }
+roomsOf p l j k =
+    record { parcels = min p mostParcels; labels = min (l / labelWidth) mostEntries; jumps = min (j / jumpWidth) mostEntries; loops = min k mostLoops }

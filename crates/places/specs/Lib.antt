@@ -1,2 +1,5 @@
 pub mod Items
-pub mod Build
+pub mod Looking
+pub mod Verdict
+pub mod Left
+pub mod Kernels

@@ -7,7 +7,7 @@ use mathlib.Core.Logic.{⊎-elim}
 use mathlib.Core.List.{List, [], _++_, append-assoc, append-nil}
 use lib.ListN.{length, take, drop}
 use lib.Seq.{take-append-seam, drop-append-seam}
-use Rattle.places.specs.Build.{gather}
+use Rattle.places.specs.Left.{gather}
 
 module _ (f : ℕ → List ℕ) where
   pub gather-split : (i n : ℕ) → i < n → (more : List ℕ) × (gather f n ≡ gather f i ++ (f i ++ more))

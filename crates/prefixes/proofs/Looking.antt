@@ -4,15 +4,14 @@ use native.Mathlib.Omega.{arith}
 use native.Mathlib.Nat.{eq-or-lt-of-le}
 use mathlib.Core.Path.{_≡_, refl, _∙_, subst}
 use mathlib.Core.Logic.{_⊎_, inl, inr, ⊎-elim}
-use mathlib.Core.Bool.{Bool, true, false}
-use Rattle.places.specs.Items.{pick}
-use Rattle.places.specs.Build.{latest, Found, at, nothing, isFound, newest, earliest}
+use mathlib.Core.Bool.{Bool, true, false, cond}
+use Rattle.places.specs.Looking.{latest, Found, at, nothing, isFound, newest, earliest}
 use Rattle.prefixes.proofs.Tests.{true-false, order, below-suc}
 
-pub pick-true : {A : Type 0} (t : Bool) (a b : A) → t ≡ true → pick t a b ≡ a
+pub pick-true : {A : Type 0} (t : Bool) (a b : A) → t ≡ true → cond t a b ≡ a
 pick-true t a b e = rw e
 
-pub pick-false : {A : Type 0} (t : Bool) (a b : A) → t ≡ false → pick t a b ≡ b
+pub pick-false : {A : Type 0} (t : Bool) (a b : A) → t ≡ false → cond t a b ≡ b
 pick-false t a b e = rw e
 
 pub at-nothing : (q : ℕ) → at q ≡ nothing → ⊥
@@ -55,7 +54,7 @@ pub not-after : {t : ℕ → Bool} {i : ℕ} (r : LatestRow t i) (q : ℕ) → q
 not-after r q h e = ⊎-elim (λ l. absurd (true-false e (r .after q l h))) (λ l. l) (order (r .row) q)
 
 -- a walk that takes f of each index that passes the test ends with f of the last one
-module _ {A : Type 0} (t : ℕ → Bool) (f walk : ℕ → A) (step : (i : ℕ) → walk (suc i) ≡ pick (t i) (f i) (walk i)) where
+module _ {A : Type 0} (t : ℕ → Bool) (f walk : ℕ → A) (step : (i : ℕ) → walk (suc i) ≡ cond (t i) (f i) (walk i)) where
   walk-none : (i : ℕ) → None t i → walk i ≡ walk 0
   walk-none zero n = refl
   walk-none (suc i) n = step i ∙ pick-false (t i) (f i) (walk i) (n i (omega arith)) ∙ walk-none i (λ q h. n q (omega arith))
@@ -70,11 +69,11 @@ module _ {A : Type 0} (t : ℕ → Bool) (f walk : ℕ → A) (step : (i : ℕ) 
       ∙ walk-is i (record { row = r .row; before = l; holds = r .holds; after = λ q u v. r .after q u (omega arith) }))
       (eq-or-lt-of-le (let w : r .row ≤ i = let h = r .before in omega arith in w))
 
-pub latest-none : (t : ℕ → Bool) (f : ℕ → ℕ) (i : ℕ) → None t i → latest t f i ≡ 0
-latest-none t f = walk-none t f (latest t f) (λ i. refl)
+pub latest-none : (t : ℕ → Bool) (f : ℕ → ℕ) (i : ℕ) → None t i → latest t f 0 i ≡ 0
+latest-none t f = walk-none t f (latest t f 0) (λ i. refl)
 
-pub latest-is : (t : ℕ → Bool) (f : ℕ → ℕ) (i : ℕ) (r : LatestRow t i) → latest t f i ≡ f (r .row)
-latest-is t f = walk-is t f (latest t f) (λ i. refl)
+pub latest-is : (t : ℕ → Bool) (f : ℕ → ℕ) (i : ℕ) (r : LatestRow t i) → latest t f 0 i ≡ f (r .row)
+latest-is t f = walk-is t f (latest t f 0) (λ i. refl)
 
 pub newest-none : (t : ℕ → Bool) (i : ℕ) → None t i → newest t i ≡ nothing
 newest-none t = walk-none t at (newest t) (λ i. refl)

@@ -9,12 +9,15 @@ use lib.Seq.{drop-cons}
 use lib.Dec.{eqb}
 use borrow.Author.Tests.{eqb-true, eq-eqb}
 use Rattle.items.specs.declared.Condition.{Condition}
-use Rattle.items.specs.declared.Item.the-variants.{Instruction, Label, Jump, LoopBegin, LoopEnd}
-use Rattle.rows.specs.declared.Read.{Read}
-use Rattle.rows.specs.declared.Read.the-variants.{Item, Refused}
-use Rattle.rows.proofs.Named.{label-named, jump-named}
-use Rattle.places.specs.Items.{rowAt, sameFrom}
-use Rattle.places.specs.Build.{bears}
+use Rattle.coded.specs.declared.Coded.the-variants.{Instruction, Label, Jump, LoopBegin, LoopEnd}
+use Rattle.coded.specs.declared.Coded.{Coded}
+use Rattle.coded.specs.declared.Coded.the-variants.{Refused}
+use Rattle.rows.specs.Rows.{rowWidth}
+use Rattle.coded.specs.Fine.{CodedFine}
+use Rattle.coded.proofs.Fine.{coded-fine, label-named, jump-named}
+use Rattle.places.specs.Items.{rowAt}
+use Rattle.places.specs.Looking.{sameFrom}
+use Rattle.places.specs.Looking.{bears}
 use Rattle.prefixes.proofs.Tests.{true-false, and-both}
 
 -- ---- bytes
@@ -56,33 +59,36 @@ module _ (names : List ℕ) (a b c d : ℕ) (h : a + b ≤ length names) (g : c 
       rw (eq-eqb _ _ p) (eq-same names b c a (omega arith) h q)
 
 -- ---- an item that bears the name
-module _ (names : List ℕ) (it : ℕ → Read) (a b : ℕ) (h : a + b ≤ length names) where
+module _ (names : List ℕ) (a b : ℕ) (h : a + b ≤ length names) where
   -- its own name
-  pub record Bears (x : Read) : Type 0 where
+  pub record Bears (x : Coded) : Type 0 where
     pub start : ℕ
     pub len : ℕ
-    pub label : x ≡ Item (Label start len)
+    pub label : x ≡ Label start len
     pub name : take len (drop start names) ≡ take b (drop a names)
 
-  pub bears-label : (x : Read) → ((c d : ℕ) → x ≡ Item (Label c d) → c + d ≤ length names) → bears names it a b x ≡ true → Bears x
-  bears-label (Item (Instruction v)) f e = absurd (true-false e refl)
-  bears-label (Item (Label c d)) f e = record { start = c; len = d; label = refl; name = test-name names a b c d h (f c d refl) e }
-  bears-label (Item (Jump q c d)) f e = absurd (true-false e refl)
-  bears-label (Item (LoopBegin c m)) f e = absurd (true-false e refl)
-  bears-label (Item LoopEnd) f e = absurd (true-false e refl)
+  pub bears-label : (x : Coded) → ((c d : ℕ) → x ≡ Label c d → c + d ≤ length names) → bears names a b x ≡ true → Bears x
+  bears-label (Instruction v) f e = absurd (true-false e refl)
+  bears-label (Label c d) f e = record { start = c; len = d; label = refl; name = test-name names a b c d h (f c d refl) e }
+  bears-label (Jump q c d) f e = absurd (true-false e refl)
+  bears-label (LoopBegin c m) f e = absurd (true-false e refl)
+  bears-label LoopEnd f e = absurd (true-false e refl)
   bears-label (Refused r) f e = absurd (true-false e refl)
 
-  pub label-bears : (x : Read) (c d : ℕ) → c + d ≤ length names → x ≡ Item (Label c d) → take d (drop c names) ≡ take b (drop a names) → bears names it a b x ≡ true
+  pub label-bears : (x : Coded) (c d : ℕ) → c + d ≤ length names → x ≡ Label c d → take d (drop c names) ≡ take b (drop a names) → bears names a b x ≡ true
   label-bears x c d g e s = rw e (name-test names a b c d h g s)
 
 -- ---- the names of a list of rows lie in the names
-pub record Named (names : List ℕ) (it : ℕ → Read) : Type 0 where
-  pub label : (i a b : ℕ) → it i ≡ Item (Label a b) → a + b ≤ length names
-  pub jump : (i : ℕ) (c : Condition) (a b : ℕ) → it i ≡ Item (Jump c a b) → a + b ≤ length names
+pub record Named (names : List ℕ) (it : ℕ → Coded) : Type 0 where
+  pub label : (i a b : ℕ) → it i ≡ Label a b → a + b ≤ length names
+  pub jump : (i : ℕ) (c : Condition) (a b : ℕ) → it i ≡ Jump c a b → a + b ≤ length names
+
+pub row-fine : (rows names : List ℕ) (i : ℕ) → CodedFine (length names) (rowAt rows names i)
+row-fine rows names i = coded-fine (take rowWidth (drop (i * rowWidth) rows)) (length names)
 
 pub rows-named : (rows names : List ℕ) → Named names (rowAt rows names)
 rows-named rows names =
     record {
-      label = λ i a b e. label-named (take 17 (drop (i * 17) rows)) (length names) a b e;
-      jump = λ i c a b e. jump-named (take 17 (drop (i * 17) rows)) (length names) c a b e;
+      label = λ i a b e. label-named (length names) (rowAt rows names i) (row-fine rows names i) a b e;
+      jump = λ i c a b e. jump-named (length names) (rowAt rows names i) (row-fine rows names i) c a b e;
     }

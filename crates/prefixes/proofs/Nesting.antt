@@ -4,18 +4,17 @@ use native.Mathlib.Omega.{arith}
 use native.Mathlib.Nat.{eq-or-lt-of-le}
 use mathlib.Core.Path.{_≡_, refl, sym, subst}
 use mathlib.Core.Logic.{_⊎_, inl, inr, ⊎-elim}
-use mathlib.Core.Bool.{Bool, true, false, _&&_}
-use mathlib.Core.List.{List}
-use lib.Dec.{ltb, eqb}
-use borrow.Author.Tests.{eq-eqb, ne-eqb, eqb-true, ltb-false}
-use Rattle.rows.specs.declared.Read.{Read}
+use mathlib.Core.Bool.{true, _&&_}
+use lib.Dec.{eqb}
+use borrow.Author.Tests.{eq-eqb, ne-eqb, eqb-true}
+use Rattle.coded.specs.declared.Coded.{Coded}
 use Rattle.places.specs.Items.{about, nest}
-use Rattle.places.specs.Build.{at, opener, deepest, closer}
+use Rattle.places.specs.Looking.{at, opener, deepest, closer}
 use Rattle.prefixes.proofs.Tests.{order, not-so, and-both, and-second}
 use Rattle.prefixes.proofs.Looking.{latest-is, newest-is}
 use Rattle.prefixes.proofs.Traits.{one-way}
 
-module _ (it : ℕ → Read) where
+module _ (it : ℕ → Coded) where
   -- the loop start b is open before i
   pub record OpenAt (b i : ℕ) : Type 0 where
     pub opens : about (it b) .opens ≡ 1
@@ -95,8 +94,8 @@ module _ (it : ℕ → Read) where
       ⊎-elim (λ u. absurd (let v = o .deep (suc e) (omega arith) u in let w = nest-closes e c in omega arith)) (λ u. u) (order e i)
 
   -- ---- the innermost
-  pub opener-is : (names : List ℕ) (b i : ℕ) → OpenAt b i → nest it i ≡ nest it b + 1 → opener names it i ≡ b
-  opener-is names b i o e =
+  pub opener-is : (b i : ℕ) → OpenAt b i → nest it i ≡ nest it b + 1 → opener it i ≡ b
+  opener-is b i o e =
       latest-is (λ k. eqb (about (it k) .opens) 1 && eqb (nest it k + 1) (nest it i)) (λ k. k) i
       (record {
         row = b;
@@ -110,37 +109,33 @@ module _ (it : ℕ → Read) where
     pub open-at : OpenAt b i
     pub level : nest it i ≡ nest it b + 1
 
-  pub innermost : (names : List ℕ) (i : ℕ) → 0 < nest it i → Innermost i (opener names it i)
-  innermost names i h =
+  pub innermost : (i : ℕ) → 0 < nest it i → Innermost i (opener it i)
+  innermost i h =
       let a = at-level i (nest it i - 1) (omega arith) in
       let l = a .level in
       let e : nest it i ≡ nest it (a .row) + 1 = omega arith in
-      rw (opener-is names (a .row) i (a .open-at) e) (record { open-at = a .open-at; level = e })
+      rw (opener-is (a .row) i (a .open-at) e) (record { open-at = a .open-at; level = e })
 
   -- where each end closes a loop, the end of a loop is what looks so
-  pub closer-is : (names : List ℕ) (n b e : ℕ) → ((q : ℕ) → q < n → about (it q) .closes ≡ 1 → 0 < nest it q)
-      → e < n → about (it e) .closes ≡ 1 → OpenAt b e → nest it e ≡ nest it b + 1 → closer names it n b ≡ at e
-  closer-is names n b e matched h c o l =
-      newest-is (λ q. eqb (about (it q) .closes) 1 && eqb (opener names it q) b) n
+  pub closer-is : (n b e : ℕ) → ((q : ℕ) → q < n → about (it q) .closes ≡ 1 → 0 < nest it q)
+      → e < n → about (it e) .closes ≡ 1 → OpenAt b e → nest it e ≡ nest it b + 1 → closer it n b ≡ at e
+  closer-is n b e matched h c o l =
+      newest-is (λ q. eqb (about (it q) .closes) 1 && eqb (opener it q) b) n
       (record {
         row = e;
         before = h;
-        holds = rw (c, opener-is names b e o l) (eq-eqb b b refl);
+        holds = rw (c, opener-is b e o l) (eq-eqb b b refl);
         after = λ q u v. not-so _ (λ t. later q u v (and-both _ _ t));
       })
     where
-      later : (q : ℕ) → e < q → q < n → (eqb (about (it q) .closes) 1 ≡ true) × (eqb (opener names it q) b ≡ true) → ⊥
+      later : (q : ℕ) → e < q → q < n → (eqb (about (it q) .closes) 1 ≡ true) × (eqb (opener it q) b ≡ true) → ⊥
       later q u v t =
-          let m = innermost names q (matched q v (eqb-true _ _ (t .0))) in
+          let m = innermost q (matched q v (eqb-true _ _ (t .0))) in
           let p : OpenAt b q = subst (λ (x : ℕ). OpenAt x q) (eqb-true _ _ (t .1)) (m .open-at) in
           let w = not-before p c l (o .before) in
           omega arith
 
   -- ---- the deepest nesting
-  pub nest-deepest : (names : List ℕ) (i : ℕ) → nest it i ≤ deepest names it i
-  nest-deepest names zero = omega arith
-  nest-deepest names (suc i) = go (ltb (deepest names it i) (nest it (suc i))) refl
-    where
-      go : (t : Bool) → ltb (deepest names it i) (nest it (suc i)) ≡ t → nest it (suc i) ≤ deepest names it (suc i)
-      go true e = rw e (omega arith)
-      go false e = rw e (ltb-false _ _ e)
+  pub nest-deepest : (i : ℕ) → nest it i ≤ deepest it i
+  nest-deepest zero = omega arith
+  nest-deepest (suc i) = omega arith

@@ -5,17 +5,16 @@ use native.Mathlib.Nat.{eq-or-lt-of-le}
 use mathlib.Core.Path.{_≡_, ap}
 use mathlib.Core.Logic.{⊎-elim}
 use mathlib.Core.Bool.{false}
-use mathlib.Core.List.{List}
 use lib.Dec.{eqb}
 use borrow.Author.Tests.{eq-eqb, ne-eqb, eqb-true, eqb-false}
-use Rattle.rows.specs.declared.Read.{Read}
-use Rattle.places.specs.Items.{isEntry, total, place, entries}
-use Rattle.places.specs.Build.{lastAt}
+use Rattle.coded.specs.declared.Coded.{Coded}
+use Rattle.places.specs.Items.{isEntry, total, address, entries}
+use Rattle.places.specs.Looking.{lastAt}
 use Rattle.prefixes.proofs.Tests.{order}
 use Rattle.prefixes.proofs.Looking.{latest-row, latest-is}
 use Rattle.prefixes.proofs.Traits.{entry-bit}
 
-module _ (f : Read → ℕ) (it : ℕ → Read) where
+module _ (f : Coded → ℕ) (it : ℕ → Coded) where
   pub total-up : (i j : ℕ) → i ≤ j → total f it i ≤ total f it j
   total-up i zero h = let e : i ≡ 0 = omega arith in rw e (omega arith)
   total-up i (suc j) h =
@@ -51,7 +50,7 @@ module _ (f : Read → ℕ) (it : ℕ → Read) where
       (order 0 (f (it i)))
 
 -- ---- the last instruction before e
-module _ (it : ℕ → Read) where
+module _ (it : ℕ → Coded) where
   pub record LastEntry (e : ℕ) : Type 0 where
     pub row : ℕ
     pub before : row < e
@@ -73,9 +72,9 @@ module _ (it : ℕ → Read) where
       })
       (latest-row (λ k. eqb (isEntry (it k)) 1) e)
 
-  pub last-is : (names : List ℕ) (k e : ℕ) → k < e → isEntry (it k) ≡ 1 → entries it (suc k) ≡ entries it e → lastAt names it e ≡ place it k
-  last-is names k e h o n =
-      latest-is (λ k. eqb (isEntry (it k)) 1) (λ k. place it k) e
+  pub last-is : (k e : ℕ) → k < e → isEntry (it k) ≡ 1 → entries it (suc k) ≡ entries it e → lastAt it e ≡ address it k
+  last-is k e h o n =
+      latest-is (λ k. eqb (isEntry (it k)) 1) (λ k. address it k) e
       (record {
         row = k;
         before = h;

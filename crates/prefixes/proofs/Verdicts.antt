@@ -9,9 +9,11 @@ use mathlib.Core.List.{List, [], _∷_}
 use Rattle.refusals.specs.declared.Refusal.{Refusal}
 use Rattle.refusals.specs.declared.Verdict.{Verdict}
 use Rattle.refusals.specs.declared.Verdict.the-variants.{Good, Refused}
-use Rattle.places.specs.declared.Answer.the-variants.{Accepted}
-use Rattle.places.specs.Build.{when, orElse, first, firstOf, ifGood, passing, answerOf}
-use Rattle.prefixes.proofs.Tests.{below-suc}
+use Rattle.refusals.specs.Order.{when, orElse, first, firstOf, ifGood, passing}
+use Rattle.places.specs.Looking.{Found, newest}
+use Rattle.places.specs.Verdict.{whenFound}
+use Rattle.prefixes.proofs.Tests.{not-so, below-suc}
+use Rattle.prefixes.proofs.Looking.{None, latest-row, newest-is, newest-none}
 
 pub refused-good : (r : Refusal) → Refused r ≡ Good → ⊥
 refused-good r e = let z : _≡_ {A = ℕ} 0 1 = cc in omega arith
@@ -22,6 +24,15 @@ when-good false r e = refl
 
 pub good-when : (t : Bool) (r : Refusal) → t ≡ false → when t r ≡ Good
 good-when t r e = rw e
+
+-- of the newest index that passes a test: none passes
+module _ (t : ℕ → Bool) (i : ℕ) (r : ℕ → Refusal) where
+  pub found-good : whenFound (newest t i) r ≡ Good → None t i
+  found-good e =
+      ⊎-elim (λ n. n) (λ m. absurd (refused-good _ (sym (ap (λ (f : Found). whenFound f r) (newest-is t i m)) ∙ e))) (latest-row t i)
+
+  pub good-found : ((k : ℕ) → k < i → t k ≡ true → ⊥) → whenFound (newest t i) r ≡ Good
+  good-found h = ap (λ (f : Found). whenFound f r) (newest-none t i (λ q l. not-so _ (h q l)))
 
 pub orElse-good : (v w : Verdict) → orElse v w ≡ Good → (v ≡ Good) × (w ≡ Good)
 orElse-good Good w e = (refl, e)
@@ -99,8 +110,3 @@ stop-passing f zero s = absurd (let h = s .before in omega arith)
 stop-passing f (suc n) s =
     ap (λ (v : Verdict). ifGood v (suc n) (passing f n)) (stop-first f (suc n) s)
     ∙ ⊎-elim (λ z. all-passing f n (λ q h. s .earlier q (omega arith)) ∙ sym z) (λ l. stop-passing f n (sooner f n s l)) (stop-split f n s)
-
--- ---- the answer
-pub answer-good : (v : Verdict) (m x : ℕ) → answerOf v m ≡ Accepted x → v ≡ Good
-answer-good Good m x e = refl
-answer-good (Refused r) m x e = let z : _≡_ {A = ℕ} 0 1 = cc in absurd (omega arith)

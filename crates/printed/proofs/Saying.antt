@@ -16,15 +16,6 @@ use Rattle.reader.specs.Steps.{Tells}
 use Rattle.text.specs.Text.{unreadText, Shows}
 use Rattle.printed.specs.Printed.{listText, saidText}
 
-pub take-least : (n : ℕ) (l : List ℕ) → take (min n (length l)) l ≡ take n l
-take-least n l = by (leb n (length l)) refl
-  where
-    by : (t : Bool) → leb n (length l) ≡ t → take (min n (length l)) l ≡ take n l
-    by true e = let k : min n (length l) ≡ n = omega (arith, leb-true n (length l) e) in rw k
-    by false e =
-        let h = leb-false n (length l) e in
-        take-all (min n (length l)) l (omega arith) ∙ sym (take-all n l (omega arith))
-
 pub unread-said : (s : Said) (r : Reading) (rb nb : List ℕ) (line : ℕ) → Tells s r rb nb → r ≡ Unread line → unreadText line ≡ saidText s
 unread-said (rows rs ns) r rb nb line t e = let z : _≡_ {A = ℕ} 0 1 = cc (t .0) in absurd (omega arith)
 unread-said (unread n) r rb nb line t e = let z : line ≡ n = cc in ap unreadText z

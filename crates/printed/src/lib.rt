@@ -1,42 +1,15 @@
 // What the bench program prints, in a lent buffer.
-ghost use mathlib.Core.Path.{_≡_};
+pub mod input;
+
 ghost use mathlib.Core.List.{List};
-ghost use Prim.Native.Nat.{ℕ, min, _≤_};
+ghost use Prim.Native.Nat.{ℕ, _≤_};
 ghost use lib.ListN.{length, take};
 ghost use Rattle.io.specs.Counts.{Counts};
 ghost use Rattle.reader.specs.Steps.{Has, HasSome};
-ghost use Rattle.text.specs.Text.{okText, Shows};
-ghost use Rattle.printed.specs.Printed.{answerText, listText, printed};
-use places::Answer;
+ghost use Rattle.text.specs.Text.{Shows};
+ghost use Rattle.printed.specs.Printed.{listText, printed};
 use reader::Reader;
 use reader::Reading;
-
-// The smaller of two numbers.
-fn least(a: usize, b: usize) -> usize
-    ensures { λ r. ⌜ (r ≡ min a b) × (r ≤ b) ⌝ }
-{
-    if a < b { a } else { b }
-}
-
-// An accepted list's text at the front, and its length.
-fn accepted(n: u32, parcels: &[u16], out: &mut [u8]) -> usize
-    requires { ⌜ (length (now parcels) ≤ 3072) × (15384 ≤ length (now out)) ⌝ }
-    ensures { λ r. ⌜ Shows (okText n (take n (now (parcels .entry)))) (now (out .exit)) r ⌝ }
-{
-    let count = least(n as usize, parcels.len());
-    text::accepted(n, &parcels[..count], out)
-}
-
-// An answer's text at the front, and its length.
-fn answered(answer: Answer, parcels: &[u16], out: &mut [u8]) -> usize
-    requires { ⌜ (length (now parcels) ≤ 3072) × (15384 ≤ length (now out)) ⌝ }
-    ensures { λ r. ⌜ Shows (answerText answer (now (parcels .entry))) (now (out .exit)) r ⌝ }
-{
-    match answer {
-        Answer::Accepted(n) => accepted(n, parcels, out),
-        Answer::Refused(r) => text::refused(r.told(), out),
-    }
-}
 
 // The text of the build of rows and names at the front, and its length.
 pub fn list(rows: &[u32], names: &[u8], out: &mut [u8]) -> usize
@@ -47,7 +20,7 @@ pub fn list(rows: &[u32], names: &[u8], out: &mut [u8]) -> usize
     let mut labels = [0u32; 1536];
     let mut jumps = [0u32; 1024];
     let answer = build::build_alone(rows, names, &mut parcels, &mut labels, &mut jumps);
-    answered(answer, &parcels, out)
+    text::answered(refusals::answered(answer), &parcels, out)
 }
 
 // The same of the first n numbers and k name bytes.

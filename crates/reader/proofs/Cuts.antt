@@ -5,7 +5,7 @@ use mathlib.Core.List.{List, [], _∷_, _++_, append-nil, append-assoc}
 use Prim.Native.Nat.{ℕ}
 use lib.Dec.{eqb}
 use borrow.Author.Tests.{eqb-true}
-use Rattle.reader.specs.Lines.{pick, onto, lines, fields}
+use Rattle.reader.specs.Lines.{onto, lines, fields}
 
 -- a list without byte 10
 abbrev pub Free : List ℕ → Type 0

@@ -9,9 +9,9 @@ use lib.ListN.{length, set, replicate, length-append, length-map, length-replica
 use lib.Dec.{ltb, leb, eqb, eqb·suc-zero}
 use borrow.Author.Tests.{lt-ltb, le-ltb, eq-eqb, ne-eqb}
 use Rattle.reader.specs.declared.Reader.{Reader}
-use Rattle.reader.specs.Lines.{pick, isDigit, value, filled}
+use Rattle.reader.specs.Lines.{isDigit, value, filled}
 use Rattle.reader.specs.Steps.{lineStart, failed, digitOf, with, letterOf, nameAt, nameOf, tabOf, endOf, Mem, mem, turnOf}
-use Rattle.reader.proofs.Picks.{yes, no, in-rows, in-names}
+use Rattle.reader.proofs.Conds.{yes, no, in-rows, in-names}
 use Rattle.reader.proofs.Buffers.{over, over-more, over-zeros}
 use Rattle.reader.proofs.Values.{value-one-more}
 use Rattle.reader.proofs.Readable.{nameBy}

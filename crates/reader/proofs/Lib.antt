@@ -1,4 +1,4 @@
-pub mod Picks
+pub mod Conds
 pub mod Buffers
 pub mod Values
 pub mod Cuts

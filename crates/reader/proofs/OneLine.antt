@@ -1,6 +1,6 @@
 -- A line, from any place in it to its end: the reader comes to what the line's fields say.
 use mathlib.Core.Path.{_≡_, refl, sym, ap, _∙_}
-use mathlib.Core.Bool.{Bool, true, false, _&&_}
+use mathlib.Core.Bool.{Bool, true, false, _&&_, cond}
 use mathlib.Core.List.{List, [], _∷_, _++_, map, append-nil, append-assoc}
 use mathlib.Core.Logic.{_⊎_, inl, inr}
 use Prim.Native.Nat.{ℕ, suc, _+_, _-_, _*_, _≤_, _<_, _^_}
@@ -9,7 +9,7 @@ use lib.ListN.{length, length-append}
 use lib.Dec.{ltb, leb, eqb}
 use borrow.Author.Tests.{lt-ltb, le-leb, lt-leb, ltb-true, ltb-false, eqb-true}
 use Rattle.reader.specs.declared.Reader.{Reader}
-use Rattle.reader.specs.Lines.{pick, onto, fields, isDigit, every, value, isNumber, Line, numbers, named, kindOf, lineOf, isRead, nameIn, rowIn, fits}
+use Rattle.reader.specs.Lines.{onto, fields, isDigit, every, value, isNumber, Line, numbers, named, kindOf, lineOf, isRead, nameIn, rowIn, fits}
 use Rattle.reader.specs.Steps.{lineStart, failed, nameAt, Mem, mem, turnOf, run}
 use Rattle.reader.proofs.Buffers.{over}
 use Rattle.reader.proofs.Values.{and-false, every-one-more, number-yes, number-empty, number-letter, number-large, value-one-more}
@@ -28,7 +28,7 @@ fields-some : (q : List ℕ) → prefixed [] (fields q) ≡ fields q
 fields-some [] = refl
 fields-some (b ∷ q) = by (eqb b 9) (fields q)
   where
-    by : (t : Bool) (fs : List (List ℕ)) → prefixed [] (pick t ([] ∷ fs) (onto b fs)) ≡ pick t ([] ∷ fs) (onto b fs)
+    by : (t : Bool) (fs : List (List ℕ)) → prefixed [] (cond t ([] ∷ fs) (onto b fs)) ≡ cond t ([] ∷ fs) (onto b fs)
     by true fs = refl
     by false [] = refl
     by false (f ∷ fs) = refl

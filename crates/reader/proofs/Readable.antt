@@ -1,6 +1,6 @@
 -- Which lines can be read: by where the name of their kind stands.
 use mathlib.Core.Path.{_≡_, refl, sym, ap, _∙_}
-use mathlib.Core.Bool.{Bool, true, false, _&&_}
+use mathlib.Core.Bool.{Bool, true, false, _&&_, cond}
 use mathlib.Core.List.{List, [], _∷_, _++_, map}
 use mathlib.Core.Logic.{_⊎_, inl, inr}
 use Prim.Native.Nat.{ℕ, zero, suc, _+_, _-_, _≤_, _<_}
@@ -9,7 +9,7 @@ use lib.ListN.{length, take, getD, length-append}
 use lib.Seq.{take-append-add, take-append-seam, getD-append-seam}
 use lib.Dec.{leb, eqb}
 use borrow.Author.Tests.{le-leb, lt-leb, eq-eqb, ne-eqb}
-use Rattle.reader.specs.Lines.{pick, every, value, isNumber, Line, numbers, named, unreadable, plain, naming, kindOf, lineOf, isRead}
+use Rattle.reader.specs.Lines.{every, value, isNumber, Line, numbers, named, unreadable, plain, naming, kindOf, lineOf, isRead}
 use Rattle.reader.specs.Steps.{nameAt}
 use Rattle.reader.proofs.Values.{and-false, every-not}
 
@@ -25,7 +25,7 @@ pub name-range : (k : ℕ) → ((0 < nameAt k) × (nameAt k ≤ 2)) ⊎ (nameAt 
 unfolding nameAt
 name-range k = by (eqb k 48) (eqb k 49)
   where
-    by : (t u : Bool) → ((0 < pick t 1 (pick u 2 17)) × (pick t 1 (pick u 2 17) ≤ 2)) ⊎ (_≡_ {A = ℕ} (pick t 1 (pick u 2 17)) 17)
+    by : (t u : Bool) → ((0 < cond t 1 (cond u 2 17)) × (cond t 1 (cond u 2 17) ≤ 2)) ⊎ (_≡_ {A = ℕ} (cond t 1 (cond u 2 17)) 17)
     by true u = inl (omega arith, omega arith)
     by false true = inl (omega arith, omega arith)
     by false false = inr refl
@@ -44,11 +44,11 @@ name-early k h = by (name-range k)
     by (inl r) = r .1
     by (inr e) = omega arith
 
-line-by : (fs : List (List ℕ)) → lineOf fs ≡ pick (eqb (nameBy fs) 17) (plain fs) (naming (nameBy fs) fs)
+line-by : (fs : List (List ℕ)) → lineOf fs ≡ cond (eqb (nameBy fs) 17) (plain fs) (naming (nameBy fs) fs)
 unfolding lineOf nameAt
 line-by fs = by (eqb (kindOf fs) 48) (eqb (kindOf fs) 49)
   where
-    by : (t u : Bool) → pick t (naming 1 fs) (pick u (naming 2 fs) (plain fs)) ≡ pick (eqb (pick t 1 (pick u 2 17)) 17) (plain fs) (naming (pick t 1 (pick u 2 17)) fs)
+    by : (t u : Bool) → cond t (naming 1 fs) (cond u (naming 2 fs) (plain fs)) ≡ cond (eqb (cond t 1 (cond u 2 17)) 17) (plain fs) (naming (cond t 1 (cond u 2 17)) fs)
     by true u = refl
     by false true = refl
     by false false = refl
@@ -60,7 +60,7 @@ naming-by : (fs : List (List ℕ)) → nameBy fs ≤ 2 → lineOf fs ≡ naming 
 naming-by fs h = line-by fs ∙ rw (ne-eqb (nameBy fs) 17 (λ e. omega arith))
 
 -- ---- lines that cannot be read
-no-line : (t : Bool) (l : Line) → t ≡ false → isRead (pick t l unreadable) ≡ false
+no-line : (t : Bool) (l : Line) → t ≡ false → isRead (cond t l unreadable) ≡ false
 no-line t l e = rw e
 
 unread-plain : (fs : List (List ℕ)) → nameBy fs ≡ 17 → (leb (length fs) 17 && every isNumber fs) ≡ false → isRead (lineOf fs) ≡ false

@@ -1,14 +1,13 @@
 -- Which way a byte goes; an unread line stays so.
 use mathlib.Core.Path.{_≡_, refl, sym, ap, _∙_}
-use mathlib.Core.Bool.{Bool, true, false}
+use mathlib.Core.Bool.{Bool, true, false, cond}
 use mathlib.Core.List.{List, [], _∷_, _++_}
 use Prim.Native.Nat.{ℕ, _+_, _≤_, _<_}
 use lib.Dec.{ltb, leb, eqb}
 use borrow.Author.Tests.{lt-leb, eq-eqb, ne-eqb}
 use Rattle.reader.specs.declared.Reader.{Reader}
-use Rattle.reader.specs.Lines.{pick}
 use Rattle.reader.specs.Steps.{digitOf, letterOf, tabOf, endOf, Mem, mem, inRows, inNames, turnOf, run}
-use Rattle.reader.proofs.Picks.{yes, no}
+use Rattle.reader.proofs.Conds.{yes, no}
 
 pub run-append : (m : Mem) (a b : List ℕ) → run m (a ++ b) ≡ run (run m a) b
 run-append m [] b = refl
@@ -25,7 +24,7 @@ run-unread m (b ∷ q) e = rw (turn-unread m b e) (run-unread m q e)
 -- ---- a line that is not unread, and not past the last item
 module _ (s : Reader) (rows names : List ℕ) (good : s .unread ≡ false) (small : s .items < 512) where
   turn-by : (b : ℕ) {m : Mem}
-      → m ≡ pick (eqb b 10) (inRows (endOf s rows) names) (pick (eqb b 9) (inRows (tabOf s rows) names) (pick (eqb (s .field) (s .name)) (inNames (letterOf s b names) rows) (mem (digitOf s b) rows names)))
+      → m ≡ cond (eqb b 10) (inRows (endOf s rows) names) (cond (eqb b 9) (inRows (tabOf s rows) names) (cond (eqb (s .field) (s .name)) (inNames (letterOf s b names) rows) (mem (digitOf s b) rows names)))
       → m ≡ turnOf (mem s rows names) b
   unfolding turnOf
   turn-by b e = no (s .unread) _ good (no _ _ (lt-leb 512 (s .items) small) e)

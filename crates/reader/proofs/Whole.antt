@@ -1,6 +1,6 @@
 -- The lines in turn: after each the reader stands at the start of the next, with the rows and names so far, or is unread for good.
 use mathlib.Core.Path.{_≡_, refl, sym, ap, ap₂, _∙_}
-use mathlib.Core.Bool.{Bool, true, false, _&&_, false≢true}
+use mathlib.Core.Bool.{Bool, true, false, _&&_, false≢true, cond}
 use mathlib.Core.List.{List, [], _∷_, _++_, map, append-nil}
 use mathlib.Core.Logic.{_⊎_, inl, inr}
 use Prim.Native.Nat.{ℕ, suc, _+_, _-_, _*_, _≤_, _<_, min}
@@ -11,9 +11,9 @@ use borrow.Author.Tests.{le-leb, le-ltb, ltb-true, ltb-false, leb-true}
 use Rattle.reader.specs.declared.Reader.{Reader}
 use Rattle.reader.specs.declared.Reading.{Reading}
 use Rattle.reader.specs.declared.Reading.the-variants.{Read, Unread}
-use Rattle.reader.specs.Lines.{pick, lines, fields, every, value, isNumber, Line, numbers, named, unreadable, plain, naming, kindOf, lineOf, isRead, nameIn, rowIn, fits, Said, rows, unread, saidFrom, said}
+use Rattle.reader.specs.Lines.{lines, fields, every, value, isNumber, Line, numbers, named, unreadable, plain, naming, kindOf, lineOf, isRead, nameIn, rowIn, fits, Said, rows, unread, saidFrom, said}
 use Rattle.reader.specs.Steps.{Fine, lineStart, failed, Mem, mem, turnOf, run, ended, readingOf, Tells}
-use Rattle.reader.proofs.Picks.{yes, no, pick-keeps}
+use Rattle.reader.proofs.Conds.{yes, no, cond-keeps}
 use Rattle.reader.proofs.Buffers.{over, over-front}
 use Rattle.reader.proofs.Cuts.{Free, Lined, none, last, more, lined, lines-more, lines-last}
 use Rattle.reader.proofs.Turns.{run-append, turn-unread, run-unread}
@@ -32,20 +32,20 @@ plain-short : (fs : List (List ℕ)) → Short (plain fs)
 unfolding plain
 plain-short fs = by (leb (length fs) 17) refl (every isNumber fs)
   where
-    by : (t : Bool) → leb (length fs) 17 ≡ t → (u : Bool) → Short (pick (t && u) (numbers (map value fs)) unreadable)
+    by : (t : Bool) → leb (length fs) 17 ≡ t → (u : Bool) → Short (cond (t && u) (numbers (map value fs)) unreadable)
     by true e true = rw (length-map fs value) (leb-true (length fs) 17 e)
     by true e false = tt
     by false e u = tt
 
 naming-short : (n : ℕ) (fs : List (List ℕ)) → n ≤ 15 → Short (naming n fs)
 unfolding naming
-naming-short n fs h = pick-keeps Short (eqb (length fs) (n + 1) && every isNumber (take n fs)) _ _ (λ _. rw (length-map (take n fs) value, length-take n fs) (omega arith)) (λ _. tt)
+naming-short n fs h = cond-keeps Short (eqb (length fs) (n + 1) && every isNumber (take n fs)) _ _ (λ _. rw (length-map (take n fs) value, length-take n fs) (omega arith)) (λ _. tt)
 
 line-short : (fs : List (List ℕ)) → Short (lineOf fs)
 unfolding lineOf
 line-short fs =
-    pick-keeps Short (eqb (kindOf fs) 48) _ _ (λ _. naming-short 1 fs (omega arith))
-    (λ _. pick-keeps Short (eqb (kindOf fs) 49) _ _ (λ _. naming-short 2 fs (omega arith)) (λ _. plain-short fs))
+    cond-keeps Short (eqb (kindOf fs) 48) _ _ (λ _. naming-short 1 fs (omega arith))
+    (λ _. cond-keeps Short (eqb (kindOf fs) 49) _ _ (λ _. naming-short 2 fs (omega arith)) (λ _. plain-short fs))
 
 filled-long : (ns : List ℕ) → length ns ≤ 17 → length (ns ++ replicate (17 - length ns) 0) ≡ 17
 filled-long ns h = rw (length-append ns (replicate (17 - length ns) 0), length-replicate {A = ℕ} (17 - length ns) 0) (omega arith)
@@ -127,7 +127,7 @@ module _ (lent : List ℕ) (long : length lent ≡ 2048) where
     unfolding l
     next-line rest ls stays next = by (fits i names l) refl _ (any-line i rs names q whole h few free)
       where
-        by : (t : Bool) → fits i names l ≡ t → (m : Mem) → After lent i rs names l t m → Told (pick t (saidFrom (i + 1) (rs ++ rowIn (length names) l) (names ++ nameIn l) ls) (unread (i + 1))) (rest m)
+        by : (t : Bool) → fits i names l ≡ t → (m : Mem) → After lent i rs names l t m → Told (cond t (saidFrom (i + 1) (rs ++ rowIn (length names) l) (names ++ nameIn l) ls) (unread (i + 1))) (rest m)
         by true e m a =
             let f = fitting i names l e in
             rw a

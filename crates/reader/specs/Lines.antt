@@ -1,14 +1,9 @@
 -- Document 01, "The bench program": what its input says, by lines and fields.
-use mathlib.Core.Bool.{Bool, true, false, _&&_}
+use mathlib.Core.Bool.{Bool, true, false, _&&_, cond}
 use mathlib.Core.List.{List, [], _∷_, _++_, map}
 use Prim.Native.Nat.{ℕ, _+_, _-_, _*_, _^_}
 use lib.ListN.{length, take, getD, replicate}
 use lib.Dec.{ltb, leb, eqb}
-
--- the first where the test holds, else the second
-abbrev pub pick : {A : Type 0} → Bool → A → A → A
-pick true a b = a
-pick false a b = b
 
 -- a byte at the front of the first part
 abbrev pub onto : ℕ → List (List ℕ) → List (List ℕ)
@@ -18,12 +13,12 @@ onto b (p ∷ ps) = (b ∷ p) ∷ ps
 -- "It reads lines (ended by byte 10, the last perhaps not)"
 abbrev pub lines : List ℕ → List (List ℕ)
 lines [] = []
-lines (b ∷ bs) = pick (eqb b 10) ([] ∷ lines bs) (onto b (lines bs))
+lines (b ∷ bs) = cond (eqb b 10) ([] ∷ lines bs) (onto b (lines bs))
 
 -- "fields parted by tabs"
 abbrev pub fields : List ℕ → List (List ℕ)
 fields [] = [] ∷ []
-fields (b ∷ bs) = pick (eqb b 9) ([] ∷ fields bs) (onto b (fields bs))
+fields (b ∷ bs) = cond (eqb b 9) ([] ∷ fields bs) (onto b (fields bs))
 
 -- "unsigned decimal below 2^32"
 abbrev pub isDigit : ℕ → Bool
@@ -51,11 +46,11 @@ pub data Line : Type 0 where
 
 -- "over 17 fields [..] or a field that is no such number"
 unfoldable pub plain : List (List ℕ) → Line
-plain fs = pick (leb (length fs) 17 && every isNumber fs) (numbers (map value fs)) unreadable
+plain fs = cond (leb (length fs) 17 && every isNumber fs) (numbers (map value fs)) unreadable
 
 -- n numbers, and then the name itself
 unfoldable pub naming : ℕ → List (List ℕ) → Line
-naming n fs = pick (eqb (length fs) (n + 1) && every isNumber (take n fs)) (named (map value (take n fs)) (getD fs n [])) unreadable
+naming n fs = cond (eqb (length fs) (n + 1) && every isNumber (take n fs)) (named (map value (take n fs)) (getD fs n [])) unreadable
 
 abbrev pub kindOf : List (List ℕ) → ℕ
 kindOf [] = 0
@@ -63,7 +58,7 @@ kindOf (f ∷ fs) = value f
 
 -- "Kinds 48 and 49 have two and three fields, the last the name itself"
 unfoldable pub lineOf : List (List ℕ) → Line
-lineOf fs = pick (eqb (kindOf fs) 48) (naming 1 fs) (pick (eqb (kindOf fs) 49) (naming 2 fs) (plain fs))
+lineOf fs = cond (eqb (kindOf fs) 48) (naming 1 fs) (cond (eqb (kindOf fs) 49) (naming 2 fs) (plain fs))
 
 abbrev pub isRead : Line → Bool
 isRead (numbers ns) = true
@@ -97,7 +92,7 @@ pub data Said : Type 0 where
 abbrev pub saidFrom : ℕ → List ℕ → List ℕ → List (List ℕ) → Said
 saidFrom i rs names [] = rows rs names
 saidFrom i rs names (l ∷ ls) =
-    pick (fits i names (lineOf (fields l)))
+    cond (fits i names (lineOf (fields l)))
     (saidFrom (i + 1) (rs ++ rowIn (length names) (lineOf (fields l))) (names ++ nameIn (lineOf (fields l))) ls)
     (unread (i + 1))
 

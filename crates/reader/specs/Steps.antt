@@ -1,6 +1,6 @@
 -- The private level: what a byte does to the reader and its two buffers. What the input says is stated in `Lines` alone.
 use mathlib.Core.Path.{_≡_}
-use mathlib.Core.Bool.{Bool, true, false}
+use mathlib.Core.Bool.{Bool, true, false, cond}
 use mathlib.Core.List.{List, [], _∷_, _++_}
 use mathlib.Core.Logic.{_⊎_}
 use Prim.Native.Nat.{ℕ, _+_, _-_, _*_, _≤_, _<_, _^_}
@@ -9,7 +9,7 @@ use lib.Dec.{ltb, leb, eqb}
 use Rattle.reader.specs.declared.Reader.{Reader}
 use Rattle.reader.specs.declared.Reading.{Reading}
 use Rattle.reader.specs.declared.Reading.the-variants.{Read, Unread}
-use Rattle.reader.specs.Lines.{pick, isDigit, Said, rows, unread, said}
+use Rattle.reader.specs.Lines.{isDigit, Said, rows, unread, said}
 
 -- what holds of a reader that was fed anything
 pub record Fine (s : Reader) : Type 0 where
@@ -29,8 +29,8 @@ failed s = record { items = s .items; field = s .field; name = s .name; begun = 
 -- a byte of a number
 unfoldable pub digitOf : Reader → ℕ → Reader
 digitOf s b =
-    pick (isDigit b)
-    (pick (ltb (s .value * 10 + (b - 48)) (2 ^ 32))
+    cond (isDigit b)
+    (cond (ltb (s .value * 10 + (b - 48)) (2 ^ 32))
     (record { items = s .items; field = s .field; name = s .name; begun = true; value = s .value * 10 + (b - 48); start = s .start; bytes = s .bytes; unread = s .unread })
     (failed s))
     (failed s)
@@ -46,23 +46,23 @@ with s l = record { reader = s; buffer = l }
 -- a byte of a name
 unfoldable pub letterOf : Reader → ℕ → List ℕ → With
 letterOf s b names =
-    pick (ltb (s .start + s .bytes) 2048)
+    cond (ltb (s .start + s .bytes) 2048)
     (with (record { items = s .items; field = s .field; name = s .name; begun = s .begun; value = s .value; start = s .start; bytes = s .bytes + 1; unread = s .unread }) (set names (s .start + s .bytes) b))
     (with (failed s) names)
 
 -- which field is the name in a line of the kind: 17 for none of them
 unfoldable pub nameAt : ℕ → ℕ
-nameAt kind = pick (eqb kind 48) 1 (pick (eqb kind 49) 2 17)
+nameAt kind = cond (eqb kind 48) 1 (cond (eqb kind 49) 2 17)
 
 -- which one it is in the line at hand, once the field at hand is over
 abbrev pub nameOf : Reader → ℕ
-nameOf s = pick (eqb (s .field) 0) (nameAt (s .value)) (s .name)
+nameOf s = cond (eqb (s .field) 0) (nameAt (s .value)) (s .name)
 
 -- a tab
 unfoldable pub tabOf : Reader → List ℕ → With
 tabOf s rs =
-    pick (s .begun)
-    (pick (ltb (s .field) 16)
+    cond (s .begun)
+    (cond (ltb (s .field) 16)
     (with (record { items = s .items; field = s .field + 1; name = nameOf s; begun = false; value = 0; start = s .start; bytes = s .bytes; unread = s .unread }) (set rs (s .items * 17 + s .field) (s .value)))
     (with (failed s) rs))
     (with (failed s) rs)
@@ -70,10 +70,10 @@ tabOf s rs =
 -- byte 10
 unfoldable pub endOf : Reader → List ℕ → With
 endOf s rs =
-    pick (eqb (s .field) (s .name))
+    cond (eqb (s .field) (s .name))
     (with (lineStart (s .items + 1) (s .start + s .bytes)) (set (set rs (s .items * 17 + s .field) (s .start)) (s .items * 17 + s .field + 1) (s .bytes)))
-    (pick (s .begun)
-    (pick (eqb (nameOf s) 17)
+    (cond (s .begun)
+    (cond (eqb (nameOf s) 17)
     (with (lineStart (s .items + 1) (s .start + s .bytes)) (set rs (s .items * 17 + s .field) (s .value)))
     (with (failed s) rs))
     (with (failed s) rs))
@@ -96,11 +96,11 @@ inNames w rs = mem (w .reader) rs (w .buffer)
 -- any byte
 unfoldable pub turnOf : Mem → ℕ → Mem
 turnOf m b =
-    pick (m .reader .unread) m
-    (pick (leb 512 (m .reader .items)) (mem (failed (m .reader)) (m .rows) (m .names))
-    (pick (eqb b 10) (inRows (endOf (m .reader) (m .rows)) (m .names))
-    (pick (eqb b 9) (inRows (tabOf (m .reader) (m .rows)) (m .names))
-    (pick (eqb (m .reader .field) (m .reader .name)) (inNames (letterOf (m .reader) b (m .names)) (m .rows))
+    cond (m .reader .unread) m
+    (cond (leb 512 (m .reader .items)) (mem (failed (m .reader)) (m .rows) (m .names))
+    (cond (eqb b 10) (inRows (endOf (m .reader) (m .rows)) (m .names))
+    (cond (eqb b 9) (inRows (tabOf (m .reader) (m .rows)) (m .names))
+    (cond (eqb (m .reader .field) (m .reader .name)) (inNames (letterOf (m .reader) b (m .names)) (m .rows))
     (mem (digitOf (m .reader) b) (m .rows) (m .names))))))
 
 abbrev pub run : Mem → List ℕ → Mem
@@ -109,11 +109,11 @@ run m (b ∷ bs) = run (turnOf m b) bs
 
 -- the end of the input: a line at hand ends too
 unfoldable pub ended : Mem → Mem
-ended m = pick (m .reader .begun) (turnOf m 10) (pick (ltb 0 (m .reader .field)) (turnOf m 10) m)
+ended m = cond (m .reader .begun) (turnOf m 10) (cond (ltb 0 (m .reader .field)) (turnOf m 10) m)
 
 -- what it comes to
 unfoldable pub readingOf : Reader → Reading
-readingOf s = pick (s .unread) (Unread (s .items + 1)) (Read (s .items * 17) (s .start))
+readingOf s = cond (s .unread) (Unread (s .items + 1)) (Read (s .items * 17) (s .start))
 
 -- ---- what callers go by
 -- a reader and its buffers have read `past`

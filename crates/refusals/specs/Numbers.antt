@@ -1,22 +1,33 @@
--- Document 01, "Refusal numbers": the number, the two details and the name's range of each refusal.
+-- Document 01, "Refusal numbers": the number, the two details and the name's range of each refusal; and answers in these numbers.
+use mathlib.Core.Bool.{Bool, false, _||_}
+use mathlib.Core.List.{List, [], _∷_}
 use Prim.Native.Nat.{ℕ, min}
 use lib.IntN.{ℤ, pos}
+use lib.Dec.{eqb}
 use Rattle.refusals.specs.declared.Told.{Told}
+use Rattle.refusals.specs.declared.Answer.{Answer}
+use Rattle.refusals.specs.declared.Answer.the-variants as answer
+use Rattle.refusals.specs.declared.Verdict.{Verdict}
+use Rattle.refusals.specs.declared.Verdict.the-variants as verdict
 use Rattle.refusals.specs.declared.Refusal.{Refusal}
 use Rattle.refusals.specs.declared.Refusal.the-variants.{RowSlice, Row, Encoding, InvalidUniversalRegister, InvalidDmIndex, InvalidDmModifier, UnsupportedPostModifyRegister, Dag1StoreSource, BranchOutOfRange, CallTargetOutOfRange, DuplicateLabel, UndefinedLabel, InvalidPmIndex, InvalidPmModifier, MixedDag, SameDagRegister, NotACompute, MultifunctionOperand, DuplicateDestination, LoopCountZero, LoopOutOfRange, EmptyLoop, UnclosedLoop, UnmatchedLoopEnd, SharedLoopEnd, LoopTailNotFullWidth, BranchInLoop, LabelInLoop, NoRoomForParcels, NoRoomForLabels, NoRoomForJumps, NoRoomForLoops, BrokenSlot, NoRoomForBytes}
 
 -- a number alone, with one detail, with two, with a name
 abbrev pub alone : ℕ → Told
-alone n = record { number = n; first = pos 0; second = pos 0; start = 0; length = 0 }
+alone n = record { number = n; count = 0; first = pos 0; second = pos 0; start = 0; length = 0 }
 
 abbrev pub one : ℕ → ℤ → Told
-one n a = record { number = n; first = a; second = pos 0; start = 0; length = 0 }
+one n a = record { number = n; count = 0; first = a; second = pos 0; start = 0; length = 0 }
 
 abbrev pub two : ℕ → ℤ → ℤ → Told
-two n a b = record { number = n; first = a; second = b; start = 0; length = 0 }
+two n a b = record { number = n; count = 0; first = a; second = b; start = 0; length = 0 }
 
 abbrev pub named : ℕ → ℕ → ℕ → Told
-named n a b = record { number = n; first = pos 0; second = pos 0; start = a; length = b }
+named n a b = record { number = n; count = 0; first = pos 0; second = pos 0; start = a; length = b }
+
+-- "0 and the parcel count"
+abbrev pub counted : ℕ → Told
+counted n = record { number = 0; count = n; first = pos 0; second = pos 0; start = 0; length = 0 }
 
 -- the largest detail; no slice has more bytes
 abbrev pub most : ℕ
@@ -58,3 +69,40 @@ toldOf (NoRoomForJumps room) = one 31 (pos room)
 toldOf (NoRoomForLoops room) = one 32 (pos room)
 toldOf (BrokenSlot row) = one 33 (pos row)
 toldOf (NoRoomForBytes bytes) = one 34 (pos (min bytes most))
+
+-- the answer where a count was made
+abbrev pub answerOf : Verdict → ℕ → Answer
+answerOf verdict.Good n = answer.Accepted n
+answerOf (verdict.Refused r) n = answer.Refused r
+
+-- "A build answers 0 and the parcel count, or a refusal with count 0"
+abbrev pub answered : Answer → Told
+answered (answer.Accepted n) = counted n
+answered (answer.Refused r) = toldOf r
+
+-- a check that finds nothing tells 0 and count 0
+abbrev pub checked : Verdict → Told
+checked verdict.Good = counted 0
+checked (verdict.Refused r) = toldOf r
+
+-- the number told is one of these
+abbrev pub among : List ℕ → Told → Bool
+among [] t = false
+among (n ∷ ns) t = eqb (t .number) n || among ns t
+
+-- "row refusals (2, 4, and 17 to 19 from compute construction)"
+abbrev pub reading : List ℕ
+reading = 2 ∷ 4 ∷ 17 ∷ 18 ∷ 19 ∷ []
+
+-- "DM modify: 5, 8, 6, 7. Dual move: 5, 6, 13, 14, 19 .. Memory move: 15, 16, 19", 9 of a branch's offset and 10 of a `CJump`
+abbrev pub encoding : List ℕ
+encoding = 5 ∷ 6 ∷ 7 ∷ 8 ∷ 9 ∷ 10 ∷ 13 ∷ 14 ∷ 15 ∷ 16 ∷ 19 ∷ []
+
+-- what a build may tell besides: all but 3, 33 and 34
+abbrev pub building : List ℕ
+building =
+    1 ∷ 2 ∷ 4 ∷ 5 ∷ 6 ∷ 7 ∷ 8 ∷ 9 ∷ 10 ∷ 11 ∷ 12 ∷ 13 ∷ 14 ∷ 15 ∷ 16 ∷ 17 ∷ 18 ∷ 19 ∷ 20 ∷ 21 ∷ 22 ∷ 23 ∷ 24 ∷ 25 ∷ 26 ∷ 27 ∷ 28 ∷ 29 ∷ 30 ∷ 31 ∷ 32 ∷ []
+
+-- the numbers whose detail is a name
+abbrev pub naming : List ℕ
+naming = 11 ∷ 12 ∷ 28 ∷ []

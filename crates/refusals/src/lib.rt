@@ -2,7 +2,7 @@
 ghost use mathlib.Core.Path.{_≡_};
 ghost use Prim.Native.Nat.{min};
 ghost use lib.IntN.{pos};
-ghost use Rattle.refusals.specs.Numbers.{alone, one, two, named, most, toldOf};
+ghost use Rattle.refusals.specs.Numbers.{alone, one, two, named, counted, most, toldOf, answered, checked};
 
 // The refusals of document 01, in its order, under the Rust's names where it has one.
 pub enum Refusal {
@@ -57,9 +57,18 @@ pub enum Verdict {
     Refused(Refusal),
 }
 
-// A refusal in numbers: its number, its two details, and its name's range in the lent names (0, 0 where it has none).
+// What a build or a count answers: a count, or why the list is refused.
+pub enum Answer {
+    Accepted(u32),
+    Refused(Refusal),
+}
+
+// An answer in numbers: 0 and a count; or a refusal's number with count 0, its two details, and its name's range in the lent names
+// (0, 0 where it has none).
+#[repr(C)]
 pub struct Told {
     pub number: u32,
+    pub count: u32,
     pub first: i64,
     pub second: i64,
     pub start: u32,
@@ -73,6 +82,7 @@ impl Told {
     {
         Told {
             number,
+            count: 0,
             first: 0,
             second: 0,
             start: 0,
@@ -86,6 +96,7 @@ impl Told {
     {
         Told {
             number,
+            count: 0,
             first,
             second: 0,
             start: 0,
@@ -99,6 +110,7 @@ impl Told {
     {
         Told {
             number,
+            count: 0,
             first: first as i64,
             second: 0,
             start: 0,
@@ -123,6 +135,7 @@ impl Told {
     {
         Told {
             number,
+            count: 0,
             first: first as i64,
             second: second as i64,
             start: 0,
@@ -136,10 +149,25 @@ impl Told {
     {
         Told {
             number,
+            count: 0,
             first: 0,
             second: 0,
             start,
             length,
+        }
+    }
+
+    // Number 0 with a count.
+    fn counted(count: u32) -> Told
+        ensures { λ r. ⌜ r ≡ counted count ⌝ }
+    {
+        Told {
+            number: 0,
+            count,
+            first: 0,
+            second: 0,
+            start: 0,
+            length: 0,
         }
     }
 }
@@ -185,5 +213,25 @@ impl Refusal {
             Refusal::BrokenSlot(first) => Told::one(33, first),
             Refusal::NoRoomForBytes(first) => Told::lent(34, first),
         }
+    }
+}
+
+// An answer in numbers.
+pub fn answered(answer: Answer) -> Told
+    ensures { λ r. ⌜ r ≡ answered answer ⌝ }
+{
+    match answer {
+        Answer::Accepted(count) => Told::counted(count),
+        Answer::Refused(refusal) => refusal.told(),
+    }
+}
+
+// A verdict in numbers.
+pub fn checked(verdict: Verdict) -> Told
+    ensures { λ r. ⌜ r ≡ checked verdict ⌝ }
+{
+    match verdict {
+        Verdict::Good => Told::counted(0),
+        Verdict::Refused(refusal) => refusal.told(),
     }
 }

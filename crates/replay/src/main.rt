@@ -1,8 +1,12 @@
 // Reads rows as lines of numbers, and prints what one instruction comes to: the replay of stored answers.
-ghost use Prim.Native.Nat.{_<_};
+ghost use mathlib.Core.Path.{_≡_};
+ghost use mathlib.Core.Bool.{true};
+ghost use Prim.Native.Nat.{_+_, _<_, _≤_};
+ghost use lib.ListN.{length};
 use libc::STDIN_FILENO;
 use libc::STDOUT_FILENO;
 use link::One;
+use refusals::Told;
 
 // The line that is being read: its number, the fields and the digits so far, and whether it is no row; and the next free place
 // of the output.
@@ -83,60 +87,34 @@ fn field(s: Line, row: &mut [u32; 17]) -> Line {
     }
 }
 
-// One byte, where there is room; the place after it.
-fn put(out: &mut [u8], at: usize, b: u8) -> usize {
-    if at < out.len() {
-        out[at] = b;
-        return at + 1;
+// Whether a line more, of at most 73 bytes, has room.
+fn has_room(out: &[u8], at: usize) -> bool
+    ensures { λ r. ⌜ (r ≡ true → at + 73 ≤ length (now (out .entry))) ⌝ }
+{
+    let long = out.len();
+    if long < 73 {
+        return false;
     }
-    at
-}
-
-// Bytes at a place of the output, as far as there is room; the place after them.
-fn put_bytes(out: &mut [u8], at: usize, bytes: &[u8]) -> usize {
-    let mut next = at;
-    let mut i = 0;
-    while i < bytes.len() {
-        next = put(out, next, bytes[i]);
-        i += 1;
-    }
-    next
-}
-
-// A number in decimal; the place after it.
-fn put_decimal(out: &mut [u8], at: usize, n: u64) -> usize {
-    let mut digits = [0u8; 20];
-    let k = io::decimal(n, &mut digits);
-    put_bytes(out, at, &digits[..k])
-}
-
-// A tab and a detail of at most 32 bits, which all of an instruction's have; the place after them.
-fn put_detail(out: &mut [u8], at: usize, z: i64) -> usize {
-    if !signs::within(-0x1_0000_0000, 0xffff_ffff, z) {
-        return at;
-    }
-    let size = signs::fold(z, 0x1_0000_0000);
-    if z < 0 {
-        let sign = put_bytes(out, at, b"\t-");
-        return put_decimal(out, sign, 0x1_0000_0000 - size);
-    }
-    let next = put(out, at, 9);
-    put_decimal(out, next, size)
+    at <= long - 73
 }
 
 // A tab and a parcel in four hex digits, where it is one of the first `count`; the place after them.
-fn put_parcel(out: &mut [u8], at: usize, p: u16, i: usize, count: u32) -> usize {
+fn put_parcel(out: &mut [u8], at: usize, p: u16, i: usize, count: u32) -> usize
+    requires { ⌜ at + 5 ≤ length (now out) ⌝ }
+    ensures { λ r. ⌜ r ≤ at + 5 ⌝ }
+{
     if count as usize <= i {
         return at;
     }
-    let mut digits = [0u8; 16];
-    let k = io::hex(p as u64, 4, &mut digits);
-    let next = put(out, at, 9);
-    put_bytes(out, next, &digits[..k])
+    let next = text::put(out, at, 9);
+    text::put_hex(out, next, p)
 }
 
 // The first `count` of six parcels; the place after them.
-fn put_parcels(out: &mut [u8], at: usize, places: [u16; 6], count: u32) -> usize {
+fn put_parcels(out: &mut [u8], at: usize, places: [u16; 6], count: u32) -> usize
+    requires { ⌜ at + 30 ≤ length (now out) ⌝ }
+    ensures { λ r. ⌜ r ≤ at + 30 ⌝ }
+{
     let mut next = at;
     let mut i: usize = 0;
     while i < 6 {
@@ -146,20 +124,33 @@ fn put_parcels(out: &mut [u8], at: usize, places: [u16; 6], count: u32) -> usize
     next
 }
 
-// The answer's line; the place after it.
-fn put_answer(out: &mut [u8], at: usize, one: One) -> usize {
-    if one.number != 0 {
-        let word = put_bytes(out, at, b"refused\t");
-        let number = put_decimal(out, word, one.number as u64);
-        let first = put_detail(out, number, one.first);
-        let second = put_detail(out, first, one.second);
-        return put(out, second, 10);
-    }
+// The line of an accepted instruction; the place after it.
+fn put_accepted(out: &mut [u8], at: usize, one: One) -> usize
+    requires { ⌜ at + 73 ≤ length (now out) ⌝ }
+{
     let places = one.places;
-    let word = put_bytes(out, at, b"ok\t");
-    let number = put_decimal(out, word, one.count as u64);
+    let number = text::put_head(out, at, b"ok\t", one.count as u64);
     let parcels = put_parcels(out, number, places, one.count);
-    put(out, parcels, 10)
+    text::put(out, parcels, 10)
+}
+
+// The answer's line, where it has room; the place after it.
+fn put_answer(out: &mut [u8], at: usize, one: One) -> usize {
+    if !has_room(out, at) {
+        return at;
+    }
+    if one.number == 0 {
+        return put_accepted(out, at, one);
+    }
+    let told = Told {
+        number: one.number,
+        count: 0,
+        first: one.first,
+        second: one.second,
+        start: 0,
+        length: 0,
+    };
+    text::put_refused(out, at, told)
 }
 
 // Writes the output up to a place; the next free place.
@@ -275,9 +266,11 @@ fn ended(line: Line, out: &mut [u8]) -> usize {
     if !line.bad {
         return at;
     }
-    let word = put_bytes(out, at, b"unread\t");
-    let number = put_decimal(out, word, line.number);
-    put(out, number, 10)
+    if !has_room(out, at) {
+        return at;
+    }
+    let number = text::put_head(out, at, b"unread\t", line.number);
+    text::put(out, number, 10)
 }
 
 fn main() {

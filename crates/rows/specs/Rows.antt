@@ -24,9 +24,16 @@ use Rattle.rows.specs.declared.Beside.{Beside}
 use Rattle.rows.specs.declared.Beside.the-variants.{Compute, Refused}
 use Rattle.rows.specs.Fields.{reg, index, modifier, code, conditionOf, directionOf, updateOf, aluOpOf, modeOf, countOf, instructionOf}
 
--- "row slice not a multiple of 17 or over the limit": whether refusal 1 is not met; "Rows: at most 4,194,304"
+-- "A row is seventeen 32-bit numbers"; "Rows: at most 4,194,304"
+abbrev pub rowWidth : ℕ
+rowWidth = 17
+
+abbrev pub mostRows : ℕ
+mostRows = 4194304
+
+-- "row slice not a multiple of 17 or over the limit": whether refusal 1 is not met
 abbrev pub wellFormed : ℕ → Bool
-wellFormed length = eqb (length % 17) 0 && leb length (4194304 * 17)
+wellFormed length = eqb (length % rowWidth) 0 && leb length (mostRows * rowWidth)
 
 -- "2 multifunction, then seven fields"
 abbrev pub multiOf : List ℕ → FloatMulAlu

@@ -37,11 +37,16 @@ pub enum Beside {
     Refused(Refusal),
 }
 
+// The numbers of a row, and the most rows.
+pub const ROW_WIDTH: usize = 17;
+
+pub const MOST_ROWS: usize = 4194304;
+
 // Whether a slice is a whole number of rows, and no more than the limit: refusal 1 is not met.
 pub fn well_formed(rows: &[u32]) -> bool
     ensures { λ r. ⌜ r ≡ wellFormed (length (now (rows .entry))) ⌝ }
 {
-    rows.len() % 17 == 0 && rows.len() <= 71303168
+    rows.len() % ROW_WIDTH == 0 && rows.len() <= MOST_ROWS * ROW_WIDTH
 }
 
 // The condition with a number.

@@ -5,74 +5,73 @@ use mathlib.Core.Path.{_≡_, sym, ap, _∙_, subst}
 use mathlib.Core.Logic.{⊎-elim}
 use mathlib.Core.Bool.{true, false, _&&_}
 use mathlib.Core.List.{List}
-use lib.Dec.{ltb}
-use borrow.Author.Tests.{ltb-true, le-ltb, ne-eqb, eqb-true}
+use lib.Dec.{ltb, leb, eqb}
+use borrow.Author.Tests.{ltb-true, leb-true, le-ltb, ne-eqb, eqb-true}
 use Rattle.items.specs.Kinds.{isBranch}
 use Rattle.items.specs.declared.LoopCount.{LoopCount}
-use Rattle.items.specs.declared.VisaInstruction.{VisaInstruction}
-use Rattle.items.specs.declared.Item.the-variants.{Instruction, LoopBegin, LoopEnd}
+use Rattle.coded.specs.declared.Coding.{Coding}
+use Rattle.coded.specs.declared.Coded.the-variants.{Instruction, LoopBegin, LoopEnd}
 use Rattle.refusals.specs.declared.Verdict.the-variants.{Good}
 use Rattle.encode.specs.Encoding.{formVerdict}
 use Rattle.encode.proofs.Reach.{loop-reach}
-use Rattle.rows.specs.declared.Read.{Read}
-use Rattle.rows.specs.declared.Read.the-variants.{Item}
+use Rattle.coded.specs.declared.Coded.{Coded}
 use Rattle.places.specs.declared.Rooms.{Rooms}
-use Rattle.places.specs.Items.{about, size, isEntry, place, entries, nest}
-use Rattle.places.specs.Build.{lastAt, shortNo, endNo, opener, faults, loopRow}
-use Rattle.prefixes.proofs.Tests.{true-false, not-so, and-both, order}
-use Rattle.prefixes.proofs.Verdicts.{AllGood, good-when}
-use Rattle.prefixes.proofs.Looking.{LatestRow, latest-row, latest-is, latest-none}
+use Rattle.places.specs.Items.{about, size, isEntry, isEnd, isShort, address, entries, nest}
+use Rattle.places.specs.Looking.{lastAt, opener}
+use Rattle.places.specs.Verdict.{faults, loopRow}
+use Rattle.prefixes.proofs.Tests.{true-false, and-both, order}
+use Rattle.prefixes.proofs.Verdicts.{AllGood, good-when, good-found}
 use Rattle.prefixes.proofs.Traits.{closes-end, short-entry}
 use Rattle.prefixes.proofs.Totals.{total-up, LastEntry, last-entry, last-is}
 use Rattle.prefixes.proofs.Nesting.{innermost, not-before}
 use Rattle.rules.specs.Rules.{Pair, Last, Valid}
-use Rattle.rules.proofs.Pairs.{isEnd, isShort, pair-from, pair-to}
+use Rattle.rules.proofs.Pairs.{pair-from, pair-to}
 
-module _ (names : List ℕ) (it : ℕ → Read) (n : ℕ) (r : Rooms) (valid : Valid names it n r) where
+module _ (names : List ℕ) (it : ℕ → Coded) (n : ℕ) (r : Rooms) (valid : Valid names it n r) where
   -- ---- outside of loops
   -- a pair around row i
   record Inside (i : ℕ) : Type 0 where
     start : ℕ
     end : ℕ
-    pair : Pair names it n start end
+    pair : Pair it n start end
     after : start < i
     before : i < end
 
   inside : (i : ℕ) → i < n → 0 < nest it i → about (it i) .closes ≡ 0 → Inside i
   inside i h d c =
-      let o = innermost it names i d .open-at in
+      let o = innermost it i d .open-at in
       let b = o .before in
-      let x = pair-from names it n (opener names it i) (omega (arith, valid .rule3 .closed)) (omega arith) (o .opens) in
+      let x = pair-from it n (opener it i) (omega (arith, valid .rule3 .closed)) (omega arith) (o .opens) in
       let p = x .pair in
-      let q : about (it (x .end)) .closes ≡ 1 = ap (λ (y : Read). about y .closes) (p .closes) in
+      let q : about (it (x .end)) .closes ≡ 1 = ap (λ (y : Coded). about y .closes) (p .closes) in
       record {
-        start = opener names it i;
+        start = opener it i;
         end = x .end;
         pair = p;
         after = b;
         before = ⊎-elim (λ l. l) (λ l. let w = not-before it o q (p .level) (p .order) in let e : x .end ≡ i = omega arith in let z : about (it i) .closes ≡ 1 = rw e at q in absurd (omega arith)) (order i (x .end));
       }
 
-  pub outside : (i : ℕ) → i < n → about (it i) .closes ≡ 0 → ((b e : ℕ) → Pair names it n b e → b < i → i < e → ⊥) → ltb 0 (nest it i) ≡ false
+  pub outside : (i : ℕ) → i < n → about (it i) .closes ≡ 0 → ((b e : ℕ) → Pair it n b e → b < i → i < e → ⊥) → ltb 0 (nest it i) ≡ false
   outside i h c f =
       ⊎-elim (λ d. let x = inside i h d c in absurd (f (x .start) (x .end) (x .pair) (x .after) (x .before))) (λ d. le-ltb 0 (nest it i) d) (order 0 (nest it i))
 
-  pub no-branch : (i : ℕ) (v : VisaInstruction) → i < n → it i ≡ Item (Instruction v) → (isBranch v && ltb 0 (nest it i)) ≡ true → ⊥
+  pub no-branch : (i : ℕ) (v : Coding) → i < n → it i ≡ Instruction v → (isBranch (v .kind) && ltb 0 (nest it i)) ≡ true → ⊥
   no-branch i v h e t =
       let y = and-both _ _ t in
-      let x = inside i h (ltb-true 0 (nest it i) (y .1)) (ap (λ (s : Read). about s .closes) e) in
+      let x = inside i h (ltb-true 0 (nest it i) (y .1)) (ap (λ (s : Coded). about s .closes) e) in
       true-false (y .0) (valid .rule3 .no-branch (x .start) (x .end) i v (x .pair) (x .after) (x .before) e)
 
   -- ---- a loop end and its start
-  module _ (i : ℕ) (h : i < n) (e : it i ≡ Item LoopEnd) where
+  module _ (i : ℕ) (h : i < n) (e : it i ≡ LoopEnd) where
     inner : 0 < nest it i
     inner = valid .rule3 .matched i h e
 
     abbrev b : ℕ
-    b = opener names it i
+    b = opener it i
 
-    pair : Pair names it n b i
-    pair = pair-to names it n i inner h (ap (λ (y : Read). about y .closes) e)
+    pair : Pair it n b i
+    pair = pair-to it n i inner h (ap (λ (y : Coded). about y .closes) e)
 
     one : isEntry (it b) ≡ 1
     one = ap isEntry (pair .opens)
@@ -84,7 +83,7 @@ module _ (names : List ℕ) (it : ℕ → Read) (n : ℕ) (r : Rooms) (valid : V
     last : LastEntry it i
     last = last-entry it i (let w = past in omega arith)
 
-    last-of : Last names it n (last .row) i
+    last-of : Last it n (last .row) i
     last-of = record { before = last .before; entry = last .entry; none-after = last .none-after }
 
     not-empty : entries it i ≡ entries it b + 1 → ⊥
@@ -97,56 +96,45 @@ module _ (names : List ℕ) (it : ℕ → Read) (n : ℕ) (r : Rooms) (valid : V
         omega arith
 
     -- an end with as many instructions before it ends on the same one
-    not-shared : endNo names it i ≡ entries it i → ⊥
-    not-shared z =
-        ⊎-elim (λ m. let w = latest-none (isEnd it) (λ q. entries it q) i m in let y = past in omega arith) earlier
-        (latest-row (isEnd it) i)
-      where
-        earlier : LatestRow (isEnd it) i → ⊥
-        earlier m =
-            let f = m .row in
-            let l = m .before in
-            let c = eqb-true (about (it f) .closes) 1 (m .holds) in
-            let s = latest-is (isEnd it) (λ q. entries it q) i m in
-            let p = pair-to names it n f (valid .rule3 .matched f (omega arith) (closes-end (it f) c)) (omega arith) c in
-            let k = last .row in
-            let x = last .entry in
-            let y = last .none-after in
-            let g : k < f = ⊎-elim (λ u. u) (λ u. absurd (let w = total-up isEntry it f k u in omega arith)) (order k f) in
-            let t = valid .rule4 .apart (opener names it f) f b i k p pair (record { before = g; entry = x; none-after = y ∙ sym z ∙ s }) last-of in
-            omega arith
-
-    full-width : (ltb (entries it b + 1) (shortNo names it i) && ltb (entries it i) (shortNo names it i + 11)) ≡ true → ⊥
-    full-width t =
+    not-shared : (f : ℕ) → f < i → (isEnd (it f) && eqb (entries it f) (entries it i)) ≡ true → ⊥
+    not-shared f l t =
         let g = and-both _ _ t in
-        let u = ltb-true (entries it b + 1) (shortNo names it i) (g .0) in
-        let v = ltb-true (entries it i) (shortNo names it i + 11) (g .1) in
-        ⊎-elim (λ m. let w = latest-none (isShort it) (λ q. entries it q + 1) i m in omega arith)
-        (λ m.
-        let w = latest-is (isShort it) (λ q. entries it q + 1) i m in
-        let s = short-entry (it (m .row)) (eqb-true _ _ (m .holds)) in
-        let l : b < m .row = ⊎-elim (λ x. x) (λ x. absurd (let y = total-up isEntry it (m .row) b x in omega arith)) (order b (m .row)) in
-        s .1 (valid .rule4 .tail b i (m .row) pair l (m .before) (s .0) (omega arith)))
-        (latest-row (isShort it) i)
+        let c = eqb-true (about (it f) .closes) 1 (g .0) in
+        let s = eqb-true (entries it f) (entries it i) (g .1) in
+        let p = pair-to it n f (valid .rule3 .matched f (omega arith) (closes-end (it f) c)) (omega arith) c in
+        let k = last .row in
+        let x = last .entry in
+        let y = last .none-after in
+        let u : k < f = ⊎-elim (λ u. u) (λ u. absurd (let w = total-up isEntry it f k u in omega arith)) (order k f) in
+        let z = valid .rule4 .apart (opener it f) f b i k p pair (record { before = u; entry = x; none-after = y ∙ sym s }) last-of in
+        omega arith
 
-    form : formVerdict (loopRow names it i b (it b)) ≡ Good
+    full-width : (k : ℕ) → k < i → (isShort (it k) && (ltb b k && leb (entries it i) (entries it k + 11))) ≡ true → ⊥
+    full-width k l t =
+        let g = and-both _ _ t in
+        let u = and-both _ _ (g .1) in
+        let s = short-entry (it k) (eqb-true _ _ (g .0)) in
+        let w : entries it i ≤ entries it k + 11 = leb-true _ _ (u .1) in
+        s .1 (valid .rule4 .tail b i k pair (ltb-true _ _ (u .0)) l (s .0) (omega arith))
+
+    form : formVerdict (loopRow it i b (it b)) ≡ Good
     form =
         let p = pair in
         let k = last .row in
         let y = one in
-        let w = last-is it names k i (last .before) (last .entry) (last .none-after) in
+        let w = last-is it k i (last .before) (last .entry) (last .none-after) in
         let g = valid .rule5 .near b i k p last-of in
         let l : b ≤ k = ⊎-elim (λ u. absurd (let x = total-up isEntry it (suc k) b u in let z = past in let s = last .none-after in omega arith)) (λ u. u) (order k b) in
         let x = total-up size it b k l in
-        subst (λ (y : Read). formVerdict (loopRow names it i b y) ≡ Good) (sym (p .opens))
-        (loop-reach (p .count) (p .mode) (lastAt names it i) (place it b) .1
-        (omega arith, omega arith, λ z. let d = valid .rule5 .counted b 0 (p .mode) (omega (arith, p .order)) (p .opens ∙ ap (λ (c : LoopCount). Item (LoopBegin c (p .mode))) z) in omega arith))
+        subst (λ (y : Coded). formVerdict (loopRow it i b y) ≡ Good) (sym (p .opens))
+        (loop-reach (p .count) (p .mode) (lastAt it i) (address it b) .1
+        (omega arith, omega arith, λ z. let d = valid .rule5 .counted b 0 (p .mode) (omega (arith, p .order)) (p .opens ∙ ap (λ (c : LoopCount). LoopBegin c (p .mode)) z) in omega arith))
 
-    pub end-passes : AllGood (faults names it r i (Item LoopEnd))
+    pub end-passes : AllGood (faults names it r i LoopEnd)
     end-passes = (
       good-when _ _ (ne-eqb _ _ (λ (z : nest it i ≡ 0). let w = inner in omega arith)),
       (
         good-when _ _ (ne-eqb _ _ not-empty),
-        (good-when _ _ (ne-eqb _ _ not-shared), (good-when _ _ (not-so _ full-width), (form, tt))),
+        (good-found _ i _ not-shared, (good-found _ i _ full-width, (form, tt))),
       ),
     )

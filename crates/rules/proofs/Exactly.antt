@@ -3,21 +3,24 @@ use Prim.Native.Nat.{ℕ, _+_, _≤_, _<_, suc}
 use native.Mathlib.Omega.{arith}
 use mathlib.Core.Path.{_≡_, ap, subst, refl}
 use mathlib.Core.Logic.{_↔_}
-use mathlib.Core.List.{List}
-use lib.ListN.{length}
+use mathlib.Core.List.{List, [], _∷_}
+use lib.Dec.{ltb}
 use borrow.Author.Tests.{ltb-false, le-ltb}
-use Rattle.items.specs.declared.Item.the-variants.{Instruction, Label, Jump, LoopEnd, LoopBegin}
+use Rattle.coded.specs.declared.Coded.the-variants.{Instruction, Label, Jump, LoopEnd, LoopBegin}
+use Rattle.refusals.specs.declared.Refusal.the-variants.{UnclosedLoop}
+use Rattle.refusals.specs.declared.Verdict.{Verdict}
 use Rattle.refusals.specs.declared.Verdict.the-variants.{Good}
-use Rattle.rows.specs.declared.Read.{Read}
-use Rattle.rows.specs.declared.Read.the-variants.{Item, Refused}
-use Rattle.places.specs.Build.{faults, reaches, verdictAt, verdict}
-use Rattle.places.specs.Items.{about, nest, size, isLabel, isJump, roomsOf}
+use Rattle.refusals.specs.Order.{when, firstOf}
+use Rattle.coded.specs.declared.Coded.{Coded}
+use Rattle.coded.specs.declared.Coded.the-variants.{Refused}
+use Rattle.places.specs.Left.{Lent, roomsIn}
+use Rattle.places.specs.Verdict.{kernel, faults, reaches, verdictAt, verdict}
+use Rattle.places.specs.Items.{about, nest, size, isLabel, isJump}
 use Rattle.places.specs.declared.Rooms.{Rooms}
-use Rattle.places.specs.declared.OpenLoop.{OpenLoop}
 use Rattle.prefixes.proofs.Names.{Named}
 use Rattle.prefixes.proofs.Nesting.{nest-opens}
 use Rattle.prefixes.proofs.Tests.{not-so}
-use Rattle.prefixes.proofs.Verdicts.{when-good, AllGood, good-when, good-first, orElse-good, first-all, good-orElse, all-first}
+use Rattle.prefixes.proofs.Verdicts.{when-good, AllGood, good-when, first-good, good-first, first-all, all-first}
 use Rattle.rules.specs.Rules.{Valid}
 use Rattle.rules.proofs.Rows.{RowsPass, JumpsReach, rule1}
 use Rattle.rules.proofs.Labels.{rule2, unique, jump-reaches}
@@ -25,13 +28,13 @@ use Rattle.rules.proofs.Loops.{rule3, rule4, rule5}
 use Rattle.rules.proofs.Ends.{outside, no-branch, end-passes}
 use Rattle.rules.proofs.Rooms.{rule6, room}
 
-abbrev opens : Read → ℕ
+abbrev opens : Coded → ℕ
 opens x = about x .opens
 
-abbrev closes : Read → ℕ
+abbrev closes : Coded → ℕ
 closes x = about x .closes
 
-module _ (names : List ℕ) (it : ℕ → Read) (n : ℕ) (r : Rooms) (named : Named names it) where
+module _ (names : List ℕ) (it : ℕ → Coded) (n : ℕ) (r : Rooms) (named : Named names it) where
   valid-if : RowsPass names it n r → nest it n ≡ 0 → JumpsReach names it n → Valid names it n r
   valid-if rows closed jumps =
       record {
@@ -44,60 +47,68 @@ module _ (names : List ℕ) (it : ℕ → Read) (n : ℕ) (r : Rooms) (named : N
       }
 
   module _ (valid : Valid names it n r) where
-    no-refusal : (i : ℕ) → i < n → (x : Read) → it i ≡ x → AllGood (faults names it r i x)
-    no-refusal i h (Item (Instruction v)) e =
-        let u = room it n size i (r .parcels) (size (Item (Instruction v))) h (omega (arith, valid .rule6 .parcels)) (ap size e) in
+    no-refusal : (i : ℕ) → i < n → (x : Coded) → it i ≡ x → AllGood (faults names it r i x)
+    no-refusal i h (Instruction v) e =
+        let u = room it n size i (r .parcels) (size (Instruction v)) h (omega (arith, valid .rule6 .parcels)) (ap size e) in
         (good-when _ _ (not-so _ (no-branch names it n r valid i v h e)), (valid .rule1 .encodes i (omega arith) v e, (good-when _ _ u, tt)))
-    no-refusal i h (Item (Label a b)) e =
+    no-refusal i h (Label a b) e =
         let o = outside names it n r valid i h (ap closes e) (λ s t p u v. valid .rule3 .no-label s t i a b p u v e) in
         let u = room it n isLabel i (r .labels) 1 h (valid .rule6 .labels) (ap isLabel e) in
         (good-when _ _ o, (good-when _ _ (unique names it n named (valid .rule2) i a b h e), (good-when _ _ u, tt)))
-    no-refusal i h (Item (Jump c a b)) e =
+    no-refusal i h (Jump c a b) e =
         let o = outside names it n r valid i h (ap closes e) (λ s t p u v. valid .rule3 .no-jump s t i c a b p u v e) in
         let u = room it n isJump i (r .jumps) 1 h (valid .rule6 .jumps) (ap isJump e) in
         let w = room it n size i (r .parcels) 3 h (omega (arith, valid .rule6 .parcels)) (ap size e) in
         (good-when _ _ o, (good-when _ _ u, (good-when _ _ w, tt)))
-    no-refusal i h (Item (LoopBegin c m)) e =
+    no-refusal i h (LoopBegin c m) e =
         let d = le-ltb (r .loops) (nest it i + 1) (subst (λ (x : ℕ). x ≤ r .loops) (nest-opens it i (ap opens e)) (valid .rule6 .loops (suc i) h)) in
         let w = room it n size i (r .parcels) 3 h (omega (arith, valid .rule6 .parcels)) (ap size e) in
         (good-when _ _ d, (good-when _ _ w, tt))
-    no-refusal i h (Item LoopEnd) e = end-passes names it n r valid i h e
+    no-refusal i h LoopEnd e = end-passes names it n r valid i h e
     no-refusal i h (Refused w) e = absurd (valid .rule1 .constructible i h w e)
 
     rows-pass : RowsPass names it n r
     rows-pass i h = good-first (faults names it r i (it i)) (no-refusal i h (it i) refl)
 
-    reaches-as : (i : ℕ) → i < n → (x : Read) → it i ≡ x → reaches names it n i x ≡ Good
-    reaches-as i h (Item (Instruction v)) e = refl
-    reaches-as i h (Item (Label a b)) e = refl
-    reaches-as i h (Item (Jump c a b)) e = jump-reaches names it n named (valid .rule2) i h c a b e
-    reaches-as i h (Item (LoopBegin c m)) e = refl
-    reaches-as i h (Item LoopEnd) e = refl
+    reaches-as : (i : ℕ) → i < n → (x : Coded) → it i ≡ x → reaches names it n i x ≡ Good
+    reaches-as i h (Instruction v) e = refl
+    reaches-as i h (Label a b) e = refl
+    reaches-as i h (Jump c a b) e = jump-reaches names it n named (valid .rule2) i h c a b e
+    reaches-as i h (LoopBegin c m) e = refl
+    reaches-as i h LoopEnd e = refl
     reaches-as i h (Refused w) e = refl
 
     jumps-reach : JumpsReach names it n
     jumps-reach i h = reaches-as i h (it i) refl
 
 -- the parts of a verdict
-pub verdict-good : (names : List ℕ) (it : ℕ → Read) (n : ℕ) (p l j : List ℕ) (k : List OpenLoop) → verdict names it n p l j k ≡ Good
-    ↔ (RowsPass names it n (roomsOf (length p) (length l) (length j) (length k)) × (nest it n ≡ 0) × JumpsReach names it n)
-verdict-good names it n p l j k = (
+abbrev pub parts : List ℕ → (ℕ → Coded) → ℕ → Lent → List Verdict
+parts names it n lent =
+    firstOf (verdictAt (kernel names it n) (roomsIn lent)) n
+    ∷ when (ltb 0 (nest it n)) UnclosedLoop
+    ∷ firstOf (λ i. reaches names it n i (it i)) n
+    ∷ []
+
+pub verdict-good : (names : List ℕ) (it : ℕ → Coded) (n : ℕ) (lent : Lent) → verdict (kernel names it n) (roomsIn lent) ≡ Good
+    ↔ (RowsPass names it n (roomsIn lent) × (nest it n ≡ 0) × JumpsReach names it n)
+verdict-good names it n lent = (
   (λ g.
-      let x = orElse-good _ _ g in
-      let y = orElse-good _ _ (x .1) in (
-        first-all (verdictAt names it n p l j k) n (x .0),
-        (let w = ltb-false 0 (nest it n) (when-good _ _ (y .0)) in omega arith),
-        first-all (λ i. reaches names it n i (it i)) n (y .1),
+      let x = first-good (parts names it n lent) g in (
+        first-all (verdictAt (kernel names it n) (roomsIn lent)) n (x .0),
+        (let w = ltb-false 0 (nest it n) (when-good _ _ (x .1 .0)) in omega arith),
+        first-all (λ i. reaches names it n i (it i)) n (x .1 .1 .0),
       )),
   (λ x.
-      good-orElse _ _ (all-first (verdictAt names it n p l j k) n (x .0))
-      (good-orElse _ _ (good-when _ _ (le-ltb 0 (nest it n) (let w = x .1 in omega arith))) (all-first (λ i. reaches names it n i (it i)) n (x .2)))),
+      good-first (parts names it n lent) (
+        all-first (verdictAt (kernel names it n) (roomsIn lent)) n (x .0),
+        (good-when _ _ (le-ltb 0 (nest it n) (let w = x .1 in omega arith)), (all-first (λ i. reaches names it n i (it i)) n (x .2), tt)),
+      )),
 )
 
-pub accepted-exactly-when-valid : (names : List ℕ) (it : ℕ → Read) (n : ℕ) (p l j : List ℕ) (k : List OpenLoop) → Named names it
-    → verdict names it n p l j k ≡ Good ↔ Valid names it n (roomsOf (length p) (length l) (length j) (length k))
-accepted-exactly-when-valid names it n p l j k named =
-    let v = verdict-good names it n p l j k in (
+pub accepted-exactly-when-valid : (names : List ℕ) (it : ℕ → Coded) (n : ℕ) (lent : Lent) → Named names it
+    → verdict (kernel names it n) (roomsIn lent) ≡ Good ↔ Valid names it n (roomsIn lent)
+accepted-exactly-when-valid names it n lent named =
+    let v = verdict-good names it n lent in (
       (λ g. let x = v .0 g in valid-if names it n _ named (x .0) (x .1) (x .2)),
       (λ x. v .1 (rows-pass names it n _ named x, omega (arith, x .rule3 .closed), jumps-reach names it n _ named x)),
     )

@@ -7,14 +7,14 @@ use mathlib.Core.Bool.{false}
 use mathlib.Core.List.{List}
 use lib.ListN.{length}
 use Rattle.items.specs.declared.Condition.{Condition}
-use Rattle.items.specs.declared.Item.the-variants.{Label, Jump}
+use Rattle.coded.specs.declared.Coded.the-variants.{Label, Jump}
 use Rattle.refusals.specs.declared.Verdict.the-variants.{Good}
 use Rattle.encode.proofs.Reach.{jump-reach}
-use Rattle.rows.specs.declared.Read.{Read}
-use Rattle.rows.specs.declared.Read.the-variants.{Item}
+use Rattle.coded.specs.declared.Coded.{Coded}
 use Rattle.places.specs.declared.Rooms.{Rooms}
-use Rattle.places.specs.Items.{place}
-use Rattle.places.specs.Build.{Found, at, bears, labelled, reach, reaches, isFound}
+use Rattle.places.specs.Items.{address}
+use Rattle.places.specs.Looking.{Found, at, bears, labelled, isFound}
+use Rattle.places.specs.Verdict.{reach, reaches}
 use Rattle.prefixes.proofs.Tests.{true-false, same-row}
 use Rattle.prefixes.proofs.Verdicts.{refused-good, when-good}
 use Rattle.prefixes.proofs.Looking.{not-found, at-nothing, earliest-row}
@@ -22,25 +22,25 @@ use Rattle.prefixes.proofs.Names.{Named, bears-label, label-bears}
 use Rattle.rules.specs.Rules.{SameName, Aimed, Rule2}
 use Rattle.rules.proofs.Rows.{RowsPass, JumpsReach, passed}
 
-module _ (names : List ℕ) (it : ℕ → Read) (n : ℕ) (named : Named names it) where
+module _ (names : List ℕ) (it : ℕ → Coded) (n : ℕ) (named : Named names it) where
   -- ---- where the rows pass and the jumps reach
   module _ (r : Rooms) (rows : RowsPass names it n r) (jumps : JumpsReach names it n) where
-    twice : (i j a b c d : ℕ) → i < j → j < n → it i ≡ Item (Label a b) → it j ≡ Item (Label c d) → SameName names a b c d → ⊥
+    twice : (i j a b c d : ℕ) → i < j → j < n → it i ≡ Label a b → it j ≡ Label c d → SameName names a b c d → ⊥
     twice i j a b c d l h e f s =
-        let z = not-found _ (when-good _ _ (passed names it n r rows j h (Item (Label c d)) f .1 .0)) in
+        let z = not-found _ (when-good _ _ (passed names it n r rows j h (Label c d) f .1 .0)) in
         ⊎-elim
-        (λ x. true-false (label-bears names it c d (named .label j c d f) (it i) a b (named .label i a b e) e s) (x .0 i l))
+        (λ x. true-false (label-bears names c d (named .label j c d f) (it i) a b (named .label i a b e) e s) (x .0 i l))
         (λ x. at-nothing (x .0) (sym (x .2) ∙ z))
-        (earliest-row (λ k. bears names it c d (it k)) j)
+        (earliest-row (λ k. bears names c d (it k)) j)
 
-    aimed : (i : ℕ) → i < n → (c : Condition) (a b : ℕ) → it i ≡ Item (Jump c a b) → Aimed names it n i a b
+    aimed : (i : ℕ) → i < n → (c : Condition) (a b : ℕ) → it i ≡ Jump c a b → Aimed names it n i a b
     aimed i h c a b e =
-        ⊎-elim (λ x. absurd (refused-good _ (subst (λ (f : Found). reach names it c i a b f ≡ Good) (x .1) good)))
+        ⊎-elim (λ x. absurd (refused-good _ (subst (λ (f : Found). reach it c i a b f ≡ Good) (x .1) good)))
         (λ x.
         let q = x .0 in
         let w = x .1 in
-        let l = bears-label names it a b (named .jump i c a b e) (it q) (named .label q) (w .holds) in
-        let g = jump-reach c (place it q) (place it i) false .0 (subst (λ (f : Found). reach names it c i a b f ≡ Good) (x .2) good) in
+        let l = bears-label names a b (named .jump i c a b e) (it q) (named .label q) (w .holds) in
+        let g = jump-reach c (address it q) (address it i) false .0 (subst (λ (f : Found). reach it c i a b f ≡ Good) (x .2) good) in
         record {
           row = q;
           start = l .start;
@@ -51,10 +51,10 @@ module _ (names : List ℕ) (it : ℕ → Read) (n : ℕ) (named : Named names i
           not-below = omega (arith, g .0);
           not-above = omega (arith, g .1);
         })
-        (earliest-row (λ k. bears names it a b (it k)) n)
+        (earliest-row (λ k. bears names a b (it k)) n)
       where
-        good : reach names it c i a b (labelled names it a b n) ≡ Good
-        good = subst (λ (y : Read). reaches names it n i y ≡ Good) e (jumps i h)
+        good : reach it c i a b (labelled names it a b n) ≡ Good
+        good = subst (λ (y : Coded). reaches names it n i y ≡ Good) e (jumps i h)
 
     pub rule2 : Rule2 names it n
     rule2 =
@@ -65,28 +65,28 @@ module _ (names : List ℕ) (it : ℕ → Read) (n : ℕ) (named : Named names i
 
   -- ---- where rule 2 holds
   module _ (rule : Rule2 names it n) where
-    pub unique : (i a b : ℕ) → i < n → it i ≡ Item (Label a b) → isFound (labelled names it a b i) ≡ false
+    pub unique : (i a b : ℕ) → i < n → it i ≡ Label a b → isFound (labelled names it a b i) ≡ false
     unique i a b h e =
         ⊎-elim (λ x. ap isFound (x .1))
         (λ x.
         let q = x .0 in
         let w = x .1 .before in
-        let l = bears-label names it a b (named .label i a b e) (it q) (named .label q) (x .1 .holds) in
+        let l = bears-label names a b (named .label i a b e) (it q) (named .label q) (x .1 .holds) in
         let z = rule .once q i (l .start) (l .len) a b (omega arith) (omega arith) (l .label) e (l .name) in
         absurd (omega arith))
-        (earliest-row (λ k. bears names it a b (it k)) i)
+        (earliest-row (λ k. bears names a b (it k)) i)
 
     -- the label that bears a name is the one that is found
-    pub labelled-is : (a b q s t : ℕ) → a + b ≤ length names → q < n → it q ≡ Item (Label s t) → SameName names s t a b → labelled names it a b n ≡ at q
+    pub labelled-is : (a b q s t : ℕ) → a + b ≤ length names → q < n → it q ≡ Label s t → SameName names s t a b → labelled names it a b n ≡ at q
     labelled-is a b q s t h g e m =
-        ⊎-elim (λ x. absurd (true-false (label-bears names it a b h (it q) s t (named .label q s t e) e m) (x .0 q g)))
+        ⊎-elim (λ x. absurd (true-false (label-bears names a b h (it q) s t (named .label q s t e) e m) (x .0 q g)))
         (λ x.
-        let l = bears-label names it a b h (it (x .0)) (named .label (x .0)) (x .1 .holds) in
+        let l = bears-label names a b h (it (x .0)) (named .label (x .0)) (x .1 .holds) in
         x .2 ∙ ap at (rule .once (x .0) q (l .start) (l .len) s t (omega (arith, x .1 .before)) (omega arith) (l .label) e (l .name ∙ sym m)))
-        (earliest-row (λ k. bears names it a b (it k)) n)
+        (earliest-row (λ k. bears names a b (it k)) n)
 
-    pub jump-reaches : (i : ℕ) → i < n → (c : Condition) (a b : ℕ) → it i ≡ Item (Jump c a b) → reach names it c i a b (labelled names it a b n) ≡ Good
+    pub jump-reaches : (i : ℕ) → i < n → (c : Condition) (a b : ℕ) → it i ≡ Jump c a b → reach it c i a b (labelled names it a b n) ≡ Good
     jump-reaches i h c a b e =
         let g = rule .aimed i h c a b e in
         let f = labelled-is a b (g .row) (g .start) (g .length) (named .jump i c a b e) (g .within) (g .label) (g .name) in
-        subst (λ (f : Found). reach names it c i a b f ≡ Good) (sym f) (jump-reach c (place it (g .row)) (place it i) false .1 (omega (arith, g .not-below, g .not-above)))
+        subst (λ (f : Found). reach it c i a b f ≡ Good) (sym f) (jump-reach c (address it (g .row)) (address it i) false .1 (omega (arith, g .not-below, g .not-above)))

@@ -6,4 +6,8 @@ pub mod Ends
 pub mod Rooms
 pub mod Exactly
 pub mod Parcels
+pub mod Walk
+pub mod Numbers
 pub mod Answers
+pub mod Fits
+pub mod Short

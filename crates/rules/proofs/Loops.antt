@@ -1,106 +1,89 @@
 -- Where every row passes, rules 3 to 5 hold: a pair of brackets is closed by an end whose refusals are not met.
 use Prim.Native.Nat.{ℕ, suc, _+_, _≤_, _<_}
 use native.Mathlib.Omega.{arith}
-use mathlib.Core.Path.{_≡_, sym, ap, _∙_, subst}
-use mathlib.Core.Logic.{⊎-elim}
+use mathlib.Core.Path.{_≡_, refl, sym, ap, _∙_, subst}
 use mathlib.Core.Bool.{true, false, _&&_}
 use mathlib.Core.List.{List}
-use lib.Dec.{ltb, eqb}
+use lib.Dec.{ltb, leb, eqb}
 use lib.IntN.{pos, _-ℤ_}
-use borrow.Author.Tests.{lt-ltb, ltb-false, eq-eqb, eqb-false}
+use borrow.Author.Tests.{lt-ltb, le-leb, ltb-false, eq-eqb, eqb-false}
 use Rattle.items.specs.declared.LoopCount.the-variants.{Immediate}
-use Rattle.items.specs.declared.Item.the-variants.{Instruction, Label, Jump, LoopEnd}
+use Rattle.coded.specs.declared.Coded.the-variants.{Instruction, Label, Jump, LoopEnd}
 use Rattle.refusals.specs.declared.Verdict.the-variants.{Good}
 use Rattle.encode.specs.Encoding.{formVerdict, loopForm}
 use Rattle.encode.proofs.Reach.{loop-reach}
-use Rattle.rows.specs.declared.Read.{Read}
-use Rattle.rows.specs.declared.Read.the-variants.{Item}
+use Rattle.coded.specs.declared.Coded.{Coded}
 use Rattle.places.specs.declared.Rooms.{Rooms}
-use Rattle.places.specs.Items.{about, size, isEntry, place, entries, nest}
-use Rattle.places.specs.Build.{lastAt, shortNo, endNo, opener, faults, loopRow}
-use Rattle.prefixes.proofs.Tests.{true-false, not-so, and-first, same-row, order}
-use Rattle.prefixes.proofs.Verdicts.{when-good, AllGood}
-use Rattle.prefixes.proofs.Looking.{LatestRow, latest-row, latest-is, not-after}
+use Rattle.places.specs.Items.{about, size, isEntry, isEnd, isShort, address, entries, nest}
+use Rattle.places.specs.Looking.{lastAt, opener}
+use Rattle.places.specs.Verdict.{faults, loopRow}
+use Rattle.prefixes.proofs.Tests.{true-false, not-so, and-first, same-row}
+use Rattle.prefixes.proofs.Verdicts.{when-good, found-good, AllGood}
 use Rattle.prefixes.proofs.Traits.{entry-bit, opens-entry, wide-entry}
 use Rattle.prefixes.proofs.Totals.{total-up, counted, last-is}
 use Rattle.rules.specs.Rules.{Pair, Body, Rule3, Last, Rule4, Rule5}
-use Rattle.rules.proofs.Pairs.{isEnd, isShort, pair-open, pair-opener, pair-from}
+use Rattle.rules.proofs.Pairs.{pair-open, pair-opener, pair-from}
 use Rattle.rules.proofs.Rows.{RowsPass, passed}
 
-module _ (names : List ℕ) (it : ℕ → Read) (n : ℕ) (r : Rooms) (rows : RowsPass names it n r) where
+module _ (names : List ℕ) (it : ℕ → Coded) (n : ℕ) (r : Rooms) (rows : RowsPass names it n r) where
   -- the refusals of the loop end e, none of them met
-  module _ (b e : ℕ) (p : Pair names it n b e) where
+  module _ (b e : ℕ) (p : Pair it n b e) where
     one : isEntry (it b) ≡ 1
-    one = opens-entry (it b) (pair-open names it n p .opens)
+    one = opens-entry (it b) (pair-open it n p .opens)
 
-    closing : AllGood (faults names it r e (Item LoopEnd))
-    closing = passed names it n r rows e (p .before-end) (Item LoopEnd) (p .closes)
+    closing : AllGood (faults names it r e LoopEnd)
+    closing = passed names it n r rows e (p .before-end) LoopEnd (p .closes)
 
-    pub loop-form : formVerdict (loopForm (p .count) (p .mode) (pos (lastAt names it e) -ℤ pos (place it b))) ≡ Good
+    pub loop-form : formVerdict (loopForm (p .count) (p .mode) (pos (lastAt it e) -ℤ pos (address it b))) ≡ Good
     loop-form =
-        subst (λ (y : Read). formVerdict (loopRow names it e b y) ≡ Good) (p .opens)
-        (subst (λ (x : ℕ). formVerdict (loopRow names it e x (it x)) ≡ Good) (pair-opener names it n p) (closing .1 .1 .1 .1 .0))
+        subst (λ (y : Coded). formVerdict (loopRow it e b y) ≡ Good) (p .opens)
+        (subst (λ (x : ℕ). formVerdict (loopRow it e x (it x)) ≡ Good) (pair-opener it n p) (closing .1 .1 .1 .1 .0))
 
-    some : Body names it n b e
+    some : Body it n b e
     some =
         let t : entries it e ≡ entries it b + 1 → ⊥ =
-        subst (λ (x : ℕ). entries it e ≡ entries it x + 1 → ⊥) (pair-opener names it n p)
-        (eqb-false (entries it e) (entries it (opener names it e) + 1) (when-good _ _ (closing .1 .0))) in
+        subst (λ (x : ℕ). entries it e ≡ entries it x + 1 → ⊥) (pair-opener it n p)
+        (eqb-false (entries it e) (entries it (opener it e) + 1) (when-good _ _ (closing .1 .0))) in
         let w = total-up isEntry it (suc b) e (p .order) in
         let c = counted isEntry it (suc b) e (let y = one in omega arith) in
         record { row = c .row; after = omega (arith, c .from); before = c .before; entry = let x = entry-bit (it (c .row)) in let y = c .counts in omega arith }
 
     tail : (k : ℕ) → b < k → k < e → isEntry (it k) ≡ 1 → entries it e ≤ entries it k + 11 → size (it k) ≡ 3
-    tail k u v o t = wide-entry (it k) o (λ s. ⊎-elim (λ m. true-false (eq-eqb _ _ s) (m k v)) (λ m. late m (not-after m k v (eq-eqb _ _ s))) (latest-row (isShort it) e))
-      where
-        late : (m : LatestRow (isShort it) e) → k ≤ m .row → ⊥
-        late m l =
-            let y = one in
-            let w = latest-is (isShort it) (λ q. entries it q + 1) e m in
-            let x = total-up isEntry it (suc b) k u in
-            let z = total-up isEntry it k (m .row) l in
-            let f : (ltb (entries it b + 1) (shortNo names it e) && ltb (entries it e) (shortNo names it e + 11)) ≡ false =
-            subst (λ (x : ℕ). (ltb (entries it x + 1) (shortNo names it e) && ltb (entries it e) (shortNo names it e + 11)) ≡ false) (pair-opener names it n p)
-            (when-good _ _ (closing .1 .1 .1 .0)) in
-            let g = ltb-false (entries it e) (shortNo names it e + 11) (and-first _ _ (lt-ltb (entries it b + 1) (shortNo names it e) (omega arith)) f) in
-            omega arith
+    tail k u v o t =
+        wide-entry (it k) o
+        (λ s.
+        true-false (let w : (isShort (it k) && (ltb b k && leb (entries it e) (entries it k + 11))) ≡ true = rw (s, lt-ltb b k u, le-leb (entries it e) (entries it k + 11) t) refl in w)
+        (subst (λ (x : ℕ). (isShort (it k) && (ltb x k && leb (entries it e) (entries it k + 11))) ≡ false) (pair-opener it n p) (found-good _ e _ (closing .1 .1 .1 .0) k v)))
 
-    near : (k : ℕ) → Last names it n k e → place it k ≤ place it b + 0x3f_ffff
+    near : (k : ℕ) → Last it n k e → address it k ≤ address it b + 0x3f_ffff
     near k l =
-        let w = last-is it names k e (l .before) (l .entry) (l .none-after) in
-        let g = loop-reach (p .count) (p .mode) (lastAt names it e) (place it b) .0 loop-form .1 in
+        let w = last-is it k e (l .before) (l .entry) (l .none-after) in
+        let g = loop-reach (p .count) (p .mode) (lastAt it e) (address it b) .0 loop-form .1 in
         omega arith
 
-  outside : (k : ℕ) → ltb 0 (nest it k) ≡ false → (b e : ℕ) → Pair names it n b e → b < k → k < e → ⊥
+  outside : (k : ℕ) → ltb 0 (nest it k) ≡ false → (b e : ℕ) → Pair it n b e → b < k → k < e → ⊥
   outside k z b e p u v = let w = ltb-false 0 (nest it k) z in let d = p .deep k u (omega arith) in omega arith
 
-  pub rule3 : nest it n ≡ 0 → Rule3 names it n
+  pub rule3 : nest it n ≡ 0 → Rule3 it n
   rule3 closed =
       record {
-        matched = λ e h z. let w : nest it e ≡ 0 → ⊥ = eqb-false _ _ (when-good _ _ (passed names it n r rows e h (Item LoopEnd) z .0)) in omega arith;
+        matched = λ e h z. let w : nest it e ≡ 0 → ⊥ = eqb-false _ _ (when-good _ _ (passed names it n r rows e h LoopEnd z .0)) in omega arith;
         closed = omega arith;
         no-label = λ b e k a c p u v z.
-            outside k (when-good _ _ (passed names it n r rows k (omega (arith, p .before-end)) (Item (Label a c)) z .0)) b e p u v;
+            outside k (when-good _ _ (passed names it n r rows k (omega (arith, p .before-end)) (Label a c) z .0)) b e p u v;
         no-jump = λ b e k c a d p u v z.
-            outside k (when-good _ _ (passed names it n r rows k (omega (arith, p .before-end)) (Item (Jump c a d)) z .0)) b e p u v;
+            outside k (when-good _ _ (passed names it n r rows k (omega (arith, p .before-end)) (Jump c a d) z .0)) b e p u v;
         no-branch = λ b e k w p u v z.
-            not-so _ (λ t. outside k (and-first _ _ t (when-good _ _ (passed names it n r rows k (omega (arith, p .before-end)) (Item (Instruction w)) z .0))) b e p u v);
+            not-so _ (λ t. outside k (and-first _ _ t (when-good _ _ (passed names it n r rows k (omega (arith, p .before-end)) (Instruction w) z .0))) b e p u v);
         some = some;
       }
 
-  alone : (e f : ℕ) → e < f → f < n → it e ≡ Item LoopEnd → it f ≡ Item LoopEnd → entries it e ≡ entries it f → ⊥
+  alone : (e f : ℕ) → e < f → f < n → it e ≡ LoopEnd → it f ≡ LoopEnd → entries it e ≡ entries it f → ⊥
   alone e f l h x y z =
-      let w = eqb-false (endNo names it f) (entries it f) (when-good _ _ (passed names it n r rows f h (Item LoopEnd) y .1 .1 .0)) in
-      let c : eqb (about (it e) .closes) 1 ≡ true = ap (λ (s : Read). eqb (about s .closes) 1) x in
-      ⊎-elim (λ m. true-false c (m e l))
-      (λ m.
-      let i = latest-is (isEnd it) (λ q. entries it q) f m in
-      let u = total-up isEntry it e (m .row) (not-after m e l c) in
-      let v = total-up isEntry it (m .row) f (let b = m .before in omega arith) in
-      w (omega arith))
-      (latest-row (isEnd it) f)
+      true-false (let w : (isEnd (it e) && eqb (entries it e) (entries it f)) ≡ true = rw (x, eq-eqb _ _ z) refl in w)
+      (found-good _ f _ (passed names it n r rows f h LoopEnd y .1 .1 .0) e l)
 
-  pub rule4 : Rule4 names it n
+  pub rule4 : Rule4 it n
   rule4 =
       record {
         apart = λ b e d f k p q u v.
@@ -110,13 +93,13 @@ module _ (names : List ℕ) (it : ℕ → Read) (n : ℕ) (r : Rooms) (rows : Ro
         tail = λ b e k p u v o t. tail b e p k u v o (omega arith);
       }
 
-  pub rule5 : nest it n ≡ 0 → Rule5 names it n
+  pub rule5 : nest it n ≡ 0 → Rule5 it n
   rule5 closed =
       record {
         counted = λ b c m h z.
-            let x = pair-from names it n b closed h (ap (λ (y : Read). about y .opens) z) in
+            let x = pair-from it n b closed h (ap (λ (y : Coded). about y .opens) z) in
             let p = x .pair in
-            let g = loop-reach (p .count) (p .mode) (lastAt names it (x .end)) (place it b) .0 (loop-form b (x .end) p) .2 in
+            let g = loop-reach (p .count) (p .mode) (lastAt it (x .end)) (address it b) .0 (loop-form b (x .end) p) .2 in
             let s : p .count ≡ Immediate c = cc in
             let q : c ≡ 0 → ⊥ = λ y. g (s ∙ ap Immediate y) in
             omega arith;

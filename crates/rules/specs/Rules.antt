@@ -11,48 +11,49 @@ use Rattle.items.specs.declared.Condition.{Condition}
 use Rattle.items.specs.declared.LoopCount.{LoopCount}
 use Rattle.items.specs.declared.LoopCount.the-variants.{Immediate}
 use Rattle.items.specs.declared.LoopMode.{LoopMode}
-use Rattle.items.specs.declared.VisaInstruction.{VisaInstruction}
-use Rattle.items.specs.declared.Item.the-variants.{Instruction, Label, Jump, LoopBegin, LoopEnd}
-use Rattle.encode.specs.Encoding.{verdictOf}
-use Rattle.rows.specs.declared.Read.{Read}
-use Rattle.rows.specs.declared.Read.the-variants as read
-use Rattle.rows.specs.declared.Read.the-variants.{Item}
-use Rattle.places.specs.Items.{size, isEntry, isLabel, isJump, total, place, entries, nest}
+use Rattle.coded.specs.declared.Coded.the-variants.{Instruction, Label, Jump, LoopBegin, LoopEnd}
+use Rattle.encode.specs.Encoding.{formVerdict}
+use Rattle.coded.specs.declared.Coding.{Coding}
+use Rattle.coded.specs.declared.Coded.{Coded}
+use Rattle.coded.specs.declared.Coded.the-variants as coded
+use Rattle.places.specs.Items.{size, isEntry, isLabel, isJump, total, place, address, entries, nest}
 use Rattle.places.specs.declared.Rooms.{Rooms}
 
 -- two ranges of the names hold the same bytes
 abbrev pub SameName : List ℕ → ℕ → ℕ → ℕ → ℕ → Type 0
 SameName names a b c d = take b (drop a names) ≡ take d (drop c names)
 
-module _ (names : List ℕ) (it : ℕ → Read) (n : ℕ) where
+module _ (it : ℕ → Coded) (n : ℕ) where
   -- 1. Every row is constructible and every instruction encodes.
   pub record Rule1 : Type 0 where
-    pub constructible : (i : ℕ) → i < n → (r : Refusal) → it i ≡ read.Refused r → ⊥
-    pub encodes : (i : ℕ) → i < n → (v : VisaInstruction) → it i ≡ Item (Instruction v) → verdictOf v ≡ Good
+    pub constructible : (i : ℕ) → i < n → (r : Refusal) → it i ≡ coded.Refused r → ⊥
+    pub encodes : (i : ℕ) → i < n → (c : Coding) → it i ≡ Instruction c → formVerdict (c .form) ≡ Good
 
-  -- the jump at i has a label: its row, name and place
+module _ (names : List ℕ) (it : ℕ → Coded) (n : ℕ) where
+  -- the jump at i has a label: its row and name
   pub record Aimed (i a b : ℕ) : Type 0 where
     pub row : ℕ
     pub start : ℕ
     pub length : ℕ
     pub within : row < n
-    pub label : it row ≡ Item (Label start length)
+    pub label : it row ≡ Label start length
     pub name : SameName names start length a b
     -- label minus jump start lies in -0x800000 .. 0x7fffff
-    pub not-below : place it i ≤ place it row + 0x80_0000
-    pub not-above : place it row < place it i + 0x80_0000
+    pub not-below : address it i ≤ address it row + 0x80_0000
+    pub not-above : address it row < address it i + 0x80_0000
 
   -- 2. No label name occurs twice; every jump's name is a label somewhere in the list, within reach.
   pub record Rule2 : Type 0 where
-    pub once : (i j a b c d : ℕ) → i < n → j < n → it i ≡ Item (Label a b) → it j ≡ Item (Label c d) → SameName names a b c d → i ≡ j
-    pub aimed : (i : ℕ) → i < n → (c : Condition) (a b : ℕ) → it i ≡ Item (Jump c a b) → Aimed i a b
+    pub once : (i j a b c d : ℕ) → i < n → j < n → it i ≡ Label a b → it j ≡ Label c d → SameName names a b c d → i ≡ j
+    pub aimed : (i : ℕ) → i < n → (c : Condition) (a b : ℕ) → it i ≡ Jump c a b → Aimed i a b
 
+module _ (it : ℕ → Coded) (n : ℕ) where
   -- the loop start b and the loop end e are a pair of brackets: what stands between them lies deeper
   pub record Pair (b e : ℕ) : Type 0 where
     pub count : LoopCount
     pub mode : LoopMode
-    pub opens : it b ≡ Item (LoopBegin count mode)
-    pub closes : it e ≡ Item LoopEnd
+    pub opens : it b ≡ LoopBegin count mode
+    pub closes : it e ≡ LoopEnd
     pub order : b < e
     pub before-end : e < n
     pub level : nest it e ≡ nest it b + 1
@@ -68,11 +69,11 @@ module _ (names : List ℕ) (it : ℕ → Read) (n : ℕ) where
   -- 3. Loop starts and ends pair as brackets. Between a pair stand no label, no jump, no `JumpRelative`, `CJump` or
   -- `LeafReturn`, and at least one instruction. A nested loop start counts as an instruction of the outer body.
   pub record Rule3 : Type 0 where
-    pub matched : (e : ℕ) → e < n → it e ≡ Item LoopEnd → 0 < nest it e
+    pub matched : (e : ℕ) → e < n → it e ≡ LoopEnd → 0 < nest it e
     pub closed : nest it n ≡ 0
-    pub no-label : (b e k a c : ℕ) → Pair b e → b < k → k < e → it k ≡ Item (Label a c) → ⊥
-    pub no-jump : (b e k : ℕ) (c : Condition) (a d : ℕ) → Pair b e → b < k → k < e → it k ≡ Item (Jump c a d) → ⊥
-    pub no-branch : (b e k : ℕ) (v : VisaInstruction) → Pair b e → b < k → k < e → it k ≡ Item (Instruction v) → isBranch v ≡ false
+    pub no-label : (b e k a c : ℕ) → Pair b e → b < k → k < e → it k ≡ Label a c → ⊥
+    pub no-jump : (b e k : ℕ) (c : Condition) (a d : ℕ) → Pair b e → b < k → k < e → it k ≡ Jump c a d → ⊥
+    pub no-branch : (b e k : ℕ) (c : Coding) → Pair b e → b < k → k < e → it k ≡ Instruction c → isBranch (c .kind) ≡ false
     pub some : (b e : ℕ) → Pair b e → Body b e
 
   -- row k is the last instruction before row e: as many stand before e as up to k
@@ -89,8 +90,8 @@ module _ (names : List ℕ) (it : ℕ → Read) (n : ℕ) where
 
   -- 5. Immediate counts are not 0; a loop's offset is at most 0x3fffff.
   pub record Rule5 : Type 0 where
-    pub counted : (b c : ℕ) (m : LoopMode) → b < n → it b ≡ Item (LoopBegin (Immediate c) m) → 0 < c
-    pub near : (b e k : ℕ) → Pair b e → Last k e → place it k ≤ place it b + 0x3f_ffff
+    pub counted : (b c : ℕ) (m : LoopMode) → b < n → it b ≡ LoopBegin (Immediate c) m → 0 < c
+    pub near : (b e k : ℕ) → Pair b e → Last k e → address it k ≤ address it b + 0x3f_ffff
 
   -- 6. Totals of parcels, labels, jumps and the deepest nesting fit their rooms.
   pub record Rule6 (r : Rooms) : Type 0 where
@@ -99,11 +100,11 @@ module _ (names : List ℕ) (it : ℕ → Read) (n : ℕ) where
     pub jumps : total isJump it n ≤ r .jumps
     pub loops : (i : ℕ) → i ≤ n → nest it i ≤ r .loops
 
-  -- a valid kernel
-  pub record Valid (r : Rooms) : Type 0 where
-    pub rule1 : Rule1
-    pub rule2 : Rule2
-    pub rule3 : Rule3
-    pub rule4 : Rule4
-    pub rule5 : Rule5
-    pub rule6 : Rule6 r
+-- a valid kernel
+pub record Valid (names : List ℕ) (it : ℕ → Coded) (n : ℕ) (r : Rooms) : Type 0 where
+  pub rule1 : Rule1 it n
+  pub rule2 : Rule2 names it n
+  pub rule3 : Rule3 it n
+  pub rule4 : Rule4 it n
+  pub rule5 : Rule5 it n
+  pub rule6 : Rule6 it n r

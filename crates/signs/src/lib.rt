@@ -2,10 +2,10 @@
 ghost use mathlib.Core.Path.{_≡_};
 ghost use mir.Syntax.{w32};
 ghost use mir.Val.{toZ};
-ghost use Prim.Native.Nat.{_+_, _*_, _<_, _≤_, _^_};
+ghost use Prim.Native.Nat.{ℕ, _+_, _*_, _<_, _≤_, _^_};
 ghost use lib.IntN.{pos, negsuc, _-ℤ_};
 ghost use lib.Signed.{mag};
-ghost use Rattle.signs.specs.Signs.{modulo, within};
+ghost use Rattle.signs.specs.Signs.{folded, within};
 
 // The signed number that a row's place holds as two's complement.
 pub fn signed(v: u32) -> i32
@@ -18,10 +18,10 @@ pub fn signed(v: u32) -> i32
     }
 }
 
-// A signed number in a field of `size` values, as two's complement.
+// A signed number in a field of `size` numbers, that is of n bits where `size` is 2 ^ n, as two's complement.
 pub fn fold(z: i64, size: u64) -> u64
     requires { ⌜ (mag z < size) × (size ≤ 2 ^ 32) ⌝ }
-    ensures { λ r. ⌜ (r ≡ modulo size z) × (r < size) ⌝ }
+    ensures { λ r. ⌜ ((n : ℕ) → size ≡ 2 ^ n → r ≡ folded n z) × (r < size) ⌝ }
 {
     if z < 0 {
         (z + size as i64) as u64

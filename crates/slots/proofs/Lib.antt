@@ -1,3 +1,4 @@
-pub mod Delayed
+pub mod Others
 pub mod Watching
 pub mod Single
+pub mod Numbers

@@ -1,60 +1,61 @@
 // The slot check: what stands after each delayed jump.
 ghost use mathlib.Core.Path.{_≡_};
-ghost use Rattle.slots.specs.Slots.{opens, fills, slotCheckOf};
-ghost use Rattle.slots.specs.Watch.{ending, EntryThat, EntryAfter};
-use entries::Entry;
+ghost use Rattle.refusals.specs.Numbers.{checked};
+ghost use Rattle.slots.specs.Slots.{opens, fills, Checks};
+ghost use Rattle.slots.specs.Watch.{after, ending};
+use coded::Coded;
 use refusals::Refusal;
 use refusals::Verdict;
 
 // What the items so far leave open: nothing, both slots or the second slot of the jump in a row, or the first jump whose
 // slots are broken.
-pub enum Watch {
+enum Watch {
     Free,
     Both(u32),
     Second(u32),
     Broken(u32),
 }
 
-// Whether an item has slots after it.
-fn opens(entry: Entry) -> bool
-    ensures { λ r. ⌜ EntryThat opens entry r ⌝ }
+// Whether a row has slots after it.
+fn opens(row: Coded) -> bool
+    ensures { λ r. ⌜ r ≡ opens row ⌝ }
 {
-    match entry {
-        Entry::Instruction(_, _, slots) => slots,
+    match row {
+        Coded::Instruction(coding) => items::has_slots(coding.kind),
         _ => false,
     }
 }
 
-// Whether an item may stand in a slot.
-fn fills(entry: Entry) -> bool
-    ensures { λ r. ⌜ EntryThat fills entry r ⌝ }
+// Whether a row may stand in a slot.
+fn fills(row: Coded) -> bool
+    ensures { λ r. ⌜ r ≡ fills row ⌝ }
 {
-    match entry {
-        Entry::Instruction(_, branch, _) => !branch,
+    match row {
+        Coded::Instruction(coding) => !items::is_branch(coding.kind),
         _ => false,
     }
 }
 
 impl Watch {
-    // What the item of a row makes of it.
-    fn after(self, entry: Entry, row: u32) -> Watch
-        ensures { λ r. ⌜ EntryAfter self entry row r ⌝ }
+    // What row i makes of it.
+    fn after(self, row: Coded, i: u32) -> Watch
+        ensures { λ r. ⌜ r ≡ after self row i ⌝ }
     {
         match self {
             Watch::Free => {
-                if opens(entry) {
-                    return Watch::Both(row);
+                if opens(row) {
+                    return Watch::Both(i);
                 }
                 Watch::Free
             }
             Watch::Both(jump) => {
-                if fills(entry) {
+                if fills(row) {
                     return Watch::Second(jump);
                 }
                 Watch::Broken(jump)
             }
             Watch::Second(jump) => {
-                if fills(entry) {
+                if fills(row) {
                     return Watch::Free;
                 }
                 Watch::Broken(jump)
@@ -63,7 +64,7 @@ impl Watch {
         }
     }
 
-    // What it comes to where no item follows: a slot that is missing is broken.
+    // What it comes to where no row follows: a slot that is missing is broken.
     fn ending(self) -> Verdict
         ensures { λ r. ⌜ r ≡ ending self ⌝ }
     {
@@ -79,22 +80,22 @@ impl Watch {
 // Whether the two items after each delayed jump may stand there; else the first row that is refused, or the row of the
 // first jump whose slots are broken.
 pub fn slot_check(rows: &[u32], names: &[u8]) -> Verdict
-    ensures { λ r. ⌜ r ≡ slotCheckOf (now (rows .entry)) (now (names .entry)) ⌝ }
+    ensures { λ r. ⌜ Checks (now (rows .entry)) (now (names .entry)) (checked r) ⌝ }
 {
     if !rows::well_formed(rows) {
         return Verdict::Refused(Refusal::RowSlice);
     }
-    let n = rows.len() / 17;
+    let n = rows.len() / rows::ROW_WIDTH;
     let mut watch = Watch::Free;
     let mut i = 0;
     while i < n {
-        let entry = entries::entry_at(rows, i, names.len());
-        match entry {
-            Entry::Refused(r) => {
+        let row = coded::coded_at(rows, i, names.len());
+        match row {
+            Coded::Refused(r) => {
                 return Verdict::Refused(r);
             }
             _ => {
-                watch = watch.after(entry, i as u32);
+                watch = watch.after(row, i as u32);
             }
         }
         i += 1;

@@ -5,18 +5,18 @@ use Prim.Native.Nat.{ℕ, suc, _+_, _-_, _≤_, _<_}
 use native.Mathlib.Omega.{arith}
 use lib.ListN.{length, set, length-set}
 use lib.Seq.{set-out}
-use Rattle.items.specs.declared.Item.the-variants.{Instruction, Label, Jump, LoopBegin, LoopEnd}
-use Rattle.rows.specs.declared.Read.{Read}
-use Rattle.rows.specs.declared.Read.the-variants as read
+use Rattle.coded.specs.declared.Coded.the-variants.{Instruction, Label, Jump, LoopBegin, LoopEnd}
+use Rattle.coded.specs.declared.Coded.{Coded}
+use Rattle.coded.specs.declared.Coded.the-variants as coded
 use Rattle.places.specs.declared.OpenLoop.{OpenLoop}
 use Rattle.places.specs.declared.Rooms.{Rooms}
-use Rattle.places.specs.Build.{zeroLoop}
+use Rattle.places.specs.Left.{Lent, lentOf, zeroLoop}
 use Rattle.machine.specs.declared.State.{State}
 use Rattle.machine.specs.declared.Step.{Step}
 use Rattle.machine.specs.declared.Step.the-variants.{On, Opened, Closed, Stop}
-use Rattle.machine.specs.Machine.{memOf, stepRow, stepState, loopsBy, GoodFor}
+use Rattle.machine.specs.Machine.{Mem, memOf, stepRow, stepState, loopsBy, GoodFor}
 use Rattle.machine.specs.Finish.{level, shut, closed}
-use Rattle.joins.proofs.Keeps.{starts-less}
+use Rattle.agrees.proofs.Keeps.{starts-less}
 use Rattle.taking.specs.declared.Taking.{Taking}
 use Rattle.taking.specs.Taking.{wentOn, turnedOf}
 
@@ -27,42 +27,46 @@ turn-loops t (Opened s start) top k = refl
 turn-loops t (Closed s) top k = refl
 turn-loops t (Stop r) top k = set-out k (length k) top (omega arith)
 
-pub turn-on : (t : Taking) (x : Read) (s : State) (top : OpenLoop) (lent : ℕ) → turnedOf t (stepRow x s) top lent .taking ≡ wentOn t (stepState (stepRow x s) s)
-turn-on t (read.Item (Instruction v)) s top lent = refl
-turn-on t (read.Item (Label a b)) s top lent = refl
-turn-on t (read.Item (Jump c a b)) s top lent = refl
-turn-on t (read.Item (LoopBegin c m)) s top lent = refl
-turn-on t (read.Item LoopEnd) s top lent = refl
-turn-on t (read.Refused why) s top lent = refl
+pub turn-on : (t : Taking) (x : Coded) (s : State) (top : OpenLoop) (lent : ℕ) → turnedOf t (stepRow x s) top lent .taking ≡ wentOn t (stepState (stepRow x s) s)
+turn-on t (Instruction v) s top lent = refl
+turn-on t (Label a b) s top lent = refl
+turn-on t (Jump c a b) s top lent = refl
+turn-on t (LoopBegin c m) s top lent = refl
+turn-on t LoopEnd s top lent = refl
+turn-on t (coded.Refused why) s top lent = refl
 
-pub deeper-by-one : (x : Read) (s : State) → stepState (stepRow x s) s .depth ≤ s .depth + 1
-deeper-by-one (read.Item (Instruction v)) s = omega arith
-deeper-by-one (read.Item (Label a b)) s = omega arith
-deeper-by-one (read.Item (Jump c a b)) s = omega arith
-deeper-by-one (read.Item (LoopBegin c m)) s = omega arith
-deeper-by-one (read.Item LoopEnd) s = omega arith
-deeper-by-one (read.Refused why) s = omega arith
+pub deeper-by-one : (x : Coded) (s : State) → stepState (stepRow x s) s .depth ≤ s .depth + 1
+deeper-by-one (Instruction v) s = omega arith
+deeper-by-one (Label a b) s = omega arith
+deeper-by-one (Jump c a b) s = omega arith
+deeper-by-one (LoopBegin c m) s = omega arith
+deeper-by-one LoopEnd s = omega arith
+deeper-by-one (coded.Refused why) s = omega arith
 
 -- ---- closing
-pub mem-eq : {s s′ : State} {p p′ l l′ j j′ : List ℕ} {k k′ : List OpenLoop} → s ≡ s′ → p ≡ p′ → l ≡ l′ → j ≡ j′ → k ≡ k′ → memOf s p l j k ≡ memOf s′ p′ l′ j′ k′
-mem-eq a b c d e = λ i. record { s = a i; P = b i; L = c i; J = d i; K = e i }
+pub mem-eq : {m m′ : Mem} → m .s ≡ m′ .s → m .lent .parcels ≡ m′ .lent .parcels → m .lent .labels ≡ m′ .lent .labels → m .lent .jumps ≡ m′ .lent .jumps → m .lent .loops ≡ m′ .lent .loops → m ≡ m′
+mem-eq a b c d e = λ i. memOf (a i) (lentOf (b i) (c i) (d i) (e i))
 
 -- with no loop open there is nothing to close
-pub closed-none : (s : State) (p l j : List ℕ) (k : List OpenLoop) → s .depth ≡ 0 → closed (memOf s p l j k) ≡ memOf s p l j k
-closed-none s p l j k z = mem-eq (ap (λ (d : ℕ). level d s) (sym z)) refl refl refl (ap (λ (d : ℕ). shut d k) z)
+pub closed-none : (s : State) (lent : Lent) → s .depth ≡ 0 → closed (memOf s lent) ≡ memOf s lent
+closed-none s lent z = mem-eq (ap (λ (d : ℕ). level d s) (sym z)) refl refl refl (ap (λ (d : ℕ). shut d (lent .loops)) z)
+
+-- the innermost record zeroed
+abbrev pub popped : State → Lent → Lent
+popped s lent = lentOf (lent .parcels) (lent .labels) (lent .jumps) (set (lent .loops) (s .depth - 1) zeroLoop)
 
 -- one loop closed, the rest later
-pub closed-one : (s : State) (p l j : List ℕ) (k : List OpenLoop) → 0 < s .depth → closed (memOf (level (s .depth - 1) s) p l j (set k (s .depth - 1) zeroLoop)) ≡ closed (memOf s p l j k)
-closed-one s p l j k h =
+pub closed-one : (s : State) (lent : Lent) → 0 < s .depth → closed (memOf (level (s .depth - 1) s) (popped s lent)) ≡ closed (memOf s lent)
+closed-one s lent h =
     let e : suc (s .depth - 1) ≡ s .depth = omega arith in
-    mem-eq refl refl refl refl (ap (λ (d : ℕ). shut d k) e)
+    mem-eq refl refl refl refl (ap (λ (d : ℕ). shut d (lent .loops)) e)
 
-pub good-less : (ns : List ℕ) (r : Rooms) (s : State) (p l j : List ℕ) (k : List OpenLoop) → 0 < s .depth → GoodFor ns r (memOf s p l j k) → GoodFor ns r (memOf (level (s .depth - 1) s) p l j (set k (s .depth - 1) zeroLoop))
-good-less ns r s p l j k h g =
-    let n = length-set k (s .depth - 1) zeroLoop in
+pub good-less : (ns : List ℕ) (r : Rooms) (s : State) (lent : Lent) → 0 < s .depth → GoodFor ns r (memOf s lent) → GoodFor ns r (memOf (level (s .depth - 1) s) (popped s lent))
+good-less ns r s lent h g =
+    let n = length-set (lent .loops) (s .depth - 1) zeroLoop in
     record {
       rooming = omega (arith, g .rooming);
       within = omega (arith, g .within);
       entries = g .entries;
-      starts = starts-less s (level (s .depth - 1) s) k refl h refl refl (g .starts);
+      starts = starts-less s (level (s .depth - 1) s) (lent .loops) refl h refl refl (g .starts);
     }

@@ -4,14 +4,14 @@ use mathlib.Core.List.{[], _∷_}
 use lib.Dec.{lit<}
 use denote.Laws.{Is}
 use denote.Struct.Laws as LL
-use Rattle.places.specs.Build.{zeroLoop}
-use Rattle.writer.proofs.Parts.{Value, structValue, enumValue}
+use Rattle.places.specs.Left.{zeroLoop}
+use Rattle.walks.proofs.Parts.{Value, structValue, enumValue}
 use Rattle.places.proofs.OpenLoop as loop
 use Rattle.places.proofs.OpenLoop.Laws as loop-laws
 use Rattle.places.proofs.Rooms as rooms
 use Rattle.places.proofs.Rooms.Laws as rooms-laws
-use Rattle.places.proofs.Answer as answer
-use Rattle.places.proofs.Answer.Laws as answer-laws
+use Rattle.refusals.proofs.Answer as answer
+use Rattle.refusals.proofs.Answer.Laws as answer-laws
 use Rattle.taking.proofs.Taking as taking
 use Rattle.taking.proofs.Taking.Laws as taking-laws
 use Rattle.taking.proofs.Turned as turned

@@ -1,35 +1,36 @@
 -- An instrument of the build's proof: a turn for each row, then one for each loop that is left open.
 use mathlib.Core.Path.{_≡_}
-use mathlib.Core.Bool.{Bool, true, false}
+use mathlib.Core.Bool.{Bool, true, false, cond}
 use mathlib.Core.Logic.{_⊎_}
 use mathlib.Core.List.{List}
-use Prim.Native.Nat.{ℕ, _+_, _-_, _≤_, _<_}
+use Prim.Native.Nat.{ℕ, _+_, _-_, _≤_}
 use lib.ListN.{length, set}
 use lib.Dec.{ltb}
 use Rattle.refusals.specs.declared.Refusal.{Refusal}
 use Rattle.refusals.specs.declared.Refusal.the-variants.{RowSlice, UnclosedLoop}
 use Rattle.refusals.specs.declared.Verdict.{Verdict}
 use Rattle.refusals.specs.declared.Verdict.the-variants.{Good, Refused}
-use Rattle.rows.specs.Rows.{wellFormed}
+use Rattle.rows.specs.Rows.{wellFormed, mostRows}
 use Rattle.places.specs.declared.OpenLoop.{OpenLoop}
 use Rattle.places.specs.declared.Rooms.{Rooms}
-use Rattle.places.specs.Items.{pick, rowAt, rowsIn}
-use Rattle.places.specs.Build.{orElse, zeroLoop}
+use Rattle.places.specs.Items.{rowAt, rowsIn}
+use Rattle.refusals.specs.Order.{orElse}
+use Rattle.places.specs.Left.{Lent, zeroLoop}
 use Rattle.machine.specs.declared.State.{State}
 use Rattle.machine.specs.declared.Step.{Step}
 use Rattle.machine.specs.declared.Step.the-variants.{On, Opened, Closed, Stop}
 use Rattle.machine.specs.Machine.{Mem, memOf, topOf, Fine, GoodFor, Stepped}
 use Rattle.machine.specs.Fold.{zeroState, rowsVerdict, rowsMem}
-use Rattle.machine.specs.Finish.{level, shut, closeVerdict, closed}
+use Rattle.machine.specs.Finish.{level, closeVerdict, closed}
 use Rattle.taking.specs.declared.Taking.{Taking}
 use Rattle.taking.specs.declared.Turned.{Turned}
 
 -- refusal 1, before any row; and the rows that are taken in
 abbrev pub formed : List ℕ → Verdict
-formed rs = pick (wellFormed (length rs)) Good (Refused RowSlice)
+formed rs = cond (wellFormed (length rs)) Good (Refused RowSlice)
 
 abbrev pub rowsTaken : List ℕ → ℕ
-rowsTaken rs = pick (wellFormed (length rs)) (rowsIn rs) 0
+rowsTaken rs = cond (wellFormed (length rs)) (rowsIn rs) 0
 
 abbrev pub startOf : List ℕ → Taking
 startOf rs = record { state = zeroState; row = 0; verdict = formed rs }
@@ -40,7 +41,7 @@ goingOn Good t = t
 goingOn (Refused r) t = false
 
 abbrev pub moreOf : List ℕ → Taking → Bool
-moreOf rs t = pick (ltb 0 (t .state .depth)) true (goingOn (t .verdict) (ltb (t .row) (rowsIn rs)))
+moreOf rs t = cond (ltb 0 (t .state .depth)) true (goingOn (t .verdict) (ltb (t .row) (rowsIn rs)))
 
 -- ---- a turn
 abbrev pub wentOn : Taking → State → Taking
@@ -73,7 +74,7 @@ pub record LateTurn (t : Taking) (p l j : List ℕ) (y : Turned) (p′ l′ j′
 
 pub record Stepping (rs ns : List ℕ) (r : Rooms) (t : Taking) (p l j : List ℕ) (top : OpenLoop) (lent : ℕ) : Type 0 where
   pub fine : Fine ns r (t .state) p l j top
-  pub few : t .verdict ≡ Good → rowsIn rs ≤ 4194304
+  pub few : t .verdict ≡ Good → rowsIn rs ≤ mostRows
 
 abbrev pub Next : List ℕ → Taking → Bool → Type 0
 Next rs t b = goingOn (t .verdict) (ltb (t .row) (rowsIn rs)) ≡ b
@@ -82,25 +83,25 @@ abbrev pub Onward : List ℕ → List ℕ → Rooms → Taking → List ℕ → 
 Onward rs ns r t p l j top lent y p′ l′ j′ = (Next rs t true × RowTurn rs ns r t p l j top lent y p′ l′ j′) ⊎ (Next rs t false × LateTurn t p l j y p′ l′ j′)
 
 -- ---- a turn over the loop table
-pub record Ready (rs ns : List ℕ) (r : Rooms) (t : Taking) (p l j : List ℕ) (k : List OpenLoop) : Type 0 where
-  pub good : GoodFor ns r (memOf (t .state) p l j k)
-  pub few : t .verdict ≡ Good → rowsIn rs ≤ 4194304
+pub record Ready (rs ns : List ℕ) (r : Rooms) (t : Taking) (lent : Lent) : Type 0 where
+  pub good : GoodFor ns r (memOf (t .state) lent)
+  pub few : t .verdict ≡ Good → rowsIn rs ≤ mostRows
 
-pub record Turnt (rs ns : List ℕ) (r : Rooms) (t : Taking) (p l j : List ℕ) (k : List OpenLoop) (x : Taking) (p′ l′ j′ : List ℕ) (k′ : List OpenLoop) : Type 0 where
+pub record Turnt (rs ns : List ℕ) (r : Rooms) (t : Taking) (lent : Lent) (x : Taking) (lent′ : Lent) : Type 0 where
   pub turn : Turned
-  pub onward : Onward rs ns r t p l j (topOf (t .state) k) (length k) turn p′ l′ j′
+  pub onward : Onward rs ns r t (lent .parcels) (lent .labels) (lent .jumps) (topOf (t .state) (lent .loops)) (length (lent .loops)) turn (lent′ .parcels) (lent′ .labels) (lent′ .jumps)
   pub taking : x ≡ turn .taking
-  pub loops : k′ ≡ set k (turn .slot) (turn .rec)
+  pub loops : lent′ .loops ≡ set (lent .loops) (turn .slot) (turn .rec)
 
 -- ---- all turns: the verdict on the rows, and the memory with every loop closed
-module _ (rs ns : List ℕ) (r : Rooms) (p l j : List ℕ) (k : List OpenLoop) where
+module _ (rs ns : List ℕ) (r : Rooms) (lent : Lent) where
   abbrev pub tookVerdict : Verdict
-  tookVerdict = rowsVerdict ns r (rowAt rs ns) (rowsTaken rs) (memOf zeroState p l j k)
+  tookVerdict = rowsVerdict ns r (rowAt rs ns) (rowsTaken rs) (memOf zeroState lent)
 
   abbrev pub tookMem : Mem
-  tookMem = rowsMem ns r (rowAt rs ns) (rowsTaken rs) (memOf zeroState p l j k)
+  tookMem = rowsMem ns r (rowAt rs ns) (rowsTaken rs) (memOf zeroState lent)
 
-pub record Took (rs ns : List ℕ) (r : Rooms) (p l j : List ℕ) (k : List OpenLoop) (x : Taking) (p′ l′ j′ : List ℕ) (k′ : List OpenLoop) : Type 0 where
-  pub verdict : x .verdict ≡ orElse (formed rs) (closeVerdict (tookVerdict rs ns r p l j k) (tookMem rs ns r p l j k))
-  pub mem : memOf (x .state) p′ l′ j′ k′ ≡ closed (tookMem rs ns r p l j k)
-  pub good : GoodFor ns r (memOf (x .state) p′ l′ j′ k′)
+pub record Took (rs ns : List ℕ) (r : Rooms) (lent : Lent) (x : Taking) (lent′ : Lent) : Type 0 where
+  pub verdict : x .verdict ≡ orElse (formed rs) (closeVerdict (tookVerdict rs ns r lent) (tookMem rs ns r lent))
+  pub mem : memOf (x .state) lent′ ≡ closed (tookMem rs ns r lent)
+  pub good : GoodFor ns r (memOf (x .state) lent′)

@@ -4,16 +4,19 @@ ghost use mathlib.Core.Path.{_≡_};
 ghost use Prim.Native.Nat.{_-_, _<_};
 ghost use lib.ListN.{length, getD, set};
 ghost use lib.Dec.{ltb};
+ghost use Rattle.rows.specs.Rows.{mostRows};
 ghost use Rattle.places.specs.Items.{rowsIn};
-ghost use Rattle.places.specs.Build.{zeroLoop};
+ghost use Rattle.places.specs.Left.{lentOf, zeroLoop};
 ghost use Rattle.machine.specs.Machine.{Fine, Rooming};
 ghost use Rattle.taking.specs.Taking.{goingOn, startOf, moreOf, wentOn, lateOf, turnedOf, closedOf, RowTurn, Stepping, Onward, Ready, Turnt, Took};
 use machine::State;
 use machine::Step;
 use places::OpenLoop;
 use places::Rooms;
+use places::ZERO_LOOP;
 use refusals::Refusal;
 use refusals::Verdict;
+use rows::ROW_WIDTH;
 
 // Where the rows stand: the state, the next row, and the first refusal if there is one.
 pub struct Taking {
@@ -29,20 +32,8 @@ pub struct Turned {
     pub rec: OpenLoop,
 }
 
-// A loop record at rest.
-pub fn zero_loop() -> OpenLoop
-    ensures { λ r. ⌜ r ≡ zeroLoop ⌝ }
-{
-    OpenLoop {
-        place: 0,
-        first: 0,
-        count: 0,
-        mode: 0,
-    }
-}
-
 // Before the first row; a slice that is no rows is refused at once.
-pub fn start(rows: &[u32]) -> Taking
+fn begun(rows: &[u32]) -> Taking
     ensures { λ r. ⌜ r ≡ startOf (now (rows .entry)) ⌝ }
 {
     let state = State::start();
@@ -61,18 +52,18 @@ pub fn start(rows: &[u32]) -> Taking
 }
 
 // Whether a row is next.
-pub fn going(rows: &[u32], t: Taking) -> bool
+fn going(rows: &[u32], t: Taking) -> bool
     ensures { λ r. ⌜ r ≡ goingOn (t .verdict) (ltb (t .row) (rowsIn (now (rows .entry)))) ⌝ }
 {
     let verdict = t.verdict;
     match verdict {
-        Verdict::Good => t.row < rows.len() / 17,
+        Verdict::Good => t.row < rows.len() / ROW_WIDTH,
         Verdict::Refused(_) => false,
     }
 }
 
 // Whether there is another turn: a row, or a loop that is left open.
-pub fn more(rows: &[u32], t: Taking) -> bool
+fn more(rows: &[u32], t: Taking) -> bool
     ensures { λ r. ⌜ r ≡ moreOf (now (rows .entry)) t ⌝ }
 {
     let state = t.state;
@@ -83,7 +74,7 @@ pub fn more(rows: &[u32], t: Taking) -> bool
 }
 
 // The slot of the innermost open loop.
-pub fn innermost(t: Taking) -> usize
+fn innermost(t: Taking) -> usize
     ensures { λ r. ⌜ r ≡ t .state .depth - 1 ⌝ }
 {
     let state = t.state;
@@ -95,7 +86,7 @@ pub fn innermost(t: Taking) -> usize
 
 // Past the row, in the state that it made.
 fn on(t: Taking, state: State) -> Taking
-    requires { ⌜ t .row < 4194304 ⌝ }
+    requires { ⌜ t .row < mostRows ⌝ }
     ensures { λ r. ⌜ r ≡ wentOn t state ⌝ }
 {
     Taking {
@@ -106,8 +97,8 @@ fn on(t: Taking, state: State) -> Taking
 }
 
 // A row's step as a turn: the record pushed, or a zero for the one popped, or no slot.
-pub fn after(t: Taking, step: Step, top: OpenLoop, lent: usize) -> Turned
-    requires { ⌜ t .row < 4194304 ⌝ }
+fn after(t: Taking, step: Step, top: OpenLoop, lent: usize) -> Turned
+    requires { ⌜ t .row < mostRows ⌝ }
     ensures { λ r. ⌜ r ≡ turnedOf t step top lent ⌝ }
 {
     let state = t.state;
@@ -125,7 +116,7 @@ pub fn after(t: Taking, step: Step, top: OpenLoop, lent: usize) -> Turned
         Step::Closed(s) => Turned {
             taking: on(t, s),
             slot: innermost(t),
-            rec: zero_loop(),
+            rec: ZERO_LOOP,
         },
         Step::Stop(r) => Turned {
             taking: Taking {
@@ -140,7 +131,7 @@ pub fn after(t: Taking, step: Step, top: OpenLoop, lent: usize) -> Turned
 }
 
 // The refusal once no row is next: the first one, or 23.
-pub fn late(verdict: Verdict) -> Refusal
+fn late(verdict: Verdict) -> Refusal
     ensures { λ r. ⌜ r ≡ lateOf verdict ⌝ }
 {
     match verdict {
@@ -150,7 +141,7 @@ pub fn late(verdict: Verdict) -> Refusal
 }
 
 // A turn past the rows: the innermost loop that is left open is closed.
-pub fn close(t: Taking) -> Turned
+fn past_rows(t: Taking) -> Turned
     ensures { λ r. ⌜ r ≡ closedOf t (lateOf (t .verdict)) ⌝ }
 {
     let slot = innermost(t);
@@ -164,12 +155,12 @@ pub fn close(t: Taking) -> Turned
             verdict: Verdict::Refused(late(verdict)),
         },
         slot,
-        rec: zero_loop(),
+        rec: ZERO_LOOP,
     }
 }
 
 // A turn at the next row.
-pub fn row(
+fn at_row(
     rows: &[u32],
     names: &[u8],
     rooms: Rooms,
@@ -180,18 +171,18 @@ pub fn row(
     top: OpenLoop,
     lent: usize,
 ) -> Turned
-    requires { ⌜ (Fine (now names) rooms (t .state) (now parcels) (now labels) (now jumps) top) × (t .row < rowsIn (now rows)) × (t .row < 4194304) ⌝ }
+    requires { ⌜ (Fine (now names) rooms (t .state) (now parcels) (now labels) (now jumps) top) × (t .row < rowsIn (now rows)) × (t .row < mostRows) ⌝ }
     ensures { λ r. ⌜ RowTurn (now (rows .entry)) (now (names .entry)) rooms t (now (parcels .entry)) (now (labels .entry)) (now (jumps .entry)) top lent r (now (parcels .exit)) (now (labels .exit)) (now (jumps .exit)) ⌝ }
 {
     let at = t.row;
     let state = t.state;
-    let entry = entries::entry_at(rows, at, names.len());
-    let step = state.step(rooms, entry, at as u32, names, parcels, labels, jumps, top);
+    let coded = coded::coded_at(rows, at, names.len());
+    let step = state.step(rooms, coded, at as u32, names, parcels, labels, jumps, top);
     after(t, step, top, lent)
 }
 
 // A turn: the next row's, or past the rows.
-pub fn step(
+fn onward(
     rows: &[u32],
     names: &[u8],
     rooms: Rooms,
@@ -206,29 +197,24 @@ pub fn step(
     ensures { λ r. ⌜ Onward (now (rows .entry)) (now (names .entry)) rooms t (now (parcels .entry)) (now (labels .entry)) (now (jumps .entry)) top lent r (now (parcels .exit)) (now (labels .exit)) (now (jumps .exit)) ⌝ }
 {
     if going(rows, t) {
-        return row(rows, names, rooms, parcels, labels, jumps, t, top, lent);
+        return at_row(rows, names, rooms, parcels, labels, jumps, t, top, lent);
     }
-    close(t)
+    past_rows(t)
 }
 
 // The record in a slot of the table; zero past its end.
-pub fn top(loops: &[OpenLoop], at: usize) -> OpenLoop
+fn top(loops: &[OpenLoop], at: usize) -> OpenLoop
     ensures { λ r. ⌜ r ≡ getD (now (loops .entry)) at zeroLoop ⌝ }
 {
     if at < loops.len() {
         loops[at]
     } else {
-        OpenLoop {
-            place: 0,
-            first: 0,
-            count: 0,
-            mode: 0,
-        }
+        ZERO_LOOP
     }
 }
 
 // A record stands in a slot of the table, if it has that slot.
-pub fn put_if(loops: &mut [OpenLoop], at: usize, rec: OpenLoop)
+fn put_if(loops: &mut [OpenLoop], at: usize, rec: OpenLoop)
     ensures { λ _. ⌜ now (loops .exit) ≡ set (now (loops .entry)) at rec ⌝ }
 {
     if at < loops.len() {
@@ -237,7 +223,7 @@ pub fn put_if(loops: &mut [OpenLoop], at: usize, rec: OpenLoop)
 }
 
 // A turn over the table: its innermost record is read, and the turn's record left in its slot.
-pub fn turn(
+fn turn(
     rows: &[u32],
     names: &[u8],
     rooms: Rooms,
@@ -247,12 +233,12 @@ pub fn turn(
     loops: &mut [OpenLoop],
     t: Taking,
 ) -> Taking
-    requires { ⌜ Ready (now rows) (now names) rooms t (now parcels) (now labels) (now jumps) (now loops) ⌝ }
-    ensures { λ r. ⌜ Turnt (now (rows .entry)) (now (names .entry)) rooms t (now (parcels .entry)) (now (labels .entry)) (now (jumps .entry)) (now (loops .entry)) r (now (parcels .exit)) (now (labels .exit)) (now (jumps .exit)) (now (loops .exit)) ⌝ }
+    requires { ⌜ Ready (now rows) (now names) rooms t (lentOf (now parcels) (now labels) (now jumps) (now loops)) ⌝ }
+    ensures { λ r. ⌜ Turnt (now (rows .entry)) (now (names .entry)) rooms t (lentOf (now (parcels .entry)) (now (labels .entry)) (now (jumps .entry)) (now (loops .entry))) r (lentOf (now (parcels .exit)) (now (labels .exit)) (now (jumps .exit)) (now (loops .exit))) ⌝ }
 {
     let slot = innermost(t);
     let found = top(&*loops, slot);
-    let out = step(
+    let out = onward(
         rows,
         names,
         rooms,
@@ -278,9 +264,9 @@ pub fn take_rows(
     loops: &mut [OpenLoop],
 ) -> Taking
     requires { ⌜ Rooming rooms (length (now parcels)) (length (now labels)) (length (now jumps)) (length (now loops)) ⌝ }
-    ensures { λ r. ⌜ Took (now (rows .entry)) (now (names .entry)) rooms (now (parcels .entry)) (now (labels .entry)) (now (jumps .entry)) (now (loops .entry)) r (now (parcels .exit)) (now (labels .exit)) (now (jumps .exit)) (now (loops .exit)) ⌝ }
+    ensures { λ r. ⌜ Took (now (rows .entry)) (now (names .entry)) rooms (lentOf (now (parcels .entry)) (now (labels .entry)) (now (jumps .entry)) (now (loops .entry))) r (lentOf (now (parcels .exit)) (now (labels .exit)) (now (jumps .exit)) (now (loops .exit))) ⌝ }
 {
-    let mut t = start(rows);
+    let mut t = begun(rows);
     while more(rows, t) {
         t = turn(
             rows,

@@ -1,6 +1,6 @@
 -- The fewest digits of a number are those without leading zeros.
 use mathlib.Core.Path.{_≡_, refl, sym, ap, _∙_}
-use mathlib.Core.Bool.{Bool, true, false}
+use mathlib.Core.Bool.{Bool, true, false, cond}
 use mathlib.Core.List.{List, [], _∷_, _++_}
 use Prim.Native.Nat.{ℕ, zero, suc, _+_, _-_, _*_, _/_, _%_, _^_, _≤_, _<_}
 use native.Mathlib.Nat.{pow-suc, pow-le-pow-right}
@@ -10,7 +10,7 @@ use lib.Dec.{ltb, leb}
 use lib.IntN.{ℤ, pos, negsuc}
 use borrow.Author.Tests.{lt-ltb, le-ltb, leb-true, leb-false}
 use Rattle.io.specs.Digits.{glyph, digits, Fewest}
-use Rattle.text.specs.Text.{pick, decimalBelow, decimal, signed, detail}
+use Rattle.text.specs.Text.{decimalBelow, decimal, signed, detail}
 
 below : (f k n : ℕ) → k ≤ f → Fewest 10 1 n k → digits 10 k n ≡ decimalBelow f n
 below zero k n h w = absurd (omega arith)
@@ -40,7 +40,7 @@ short : (k n : ℕ) → length (decimalBelow k n) ≤ k
 short zero n = omega arith
 short (suc k) n = by (ltb n 10) (short k (n / 10))
   where
-    by : (t : Bool) → length (decimalBelow k (n / 10)) ≤ k → length (pick t (glyph n ∷ []) (decimalBelow k (n / 10) ++ glyph (n % 10) ∷ [])) ≤ suc k
+    by : (t : Bool) → length (decimalBelow k (n / 10)) ≤ k → length (cond t (glyph n ∷ []) (decimalBelow k (n / 10) ++ glyph (n % 10) ∷ [])) ≤ suc k
     by true h = omega arith
     by false h = rw (length-append (decimalBelow k (n / 10)) (glyph (n % 10) ∷ [])) (omega arith)
 

@@ -1,9 +1,13 @@
--- Every text fits its buffer.
-use mathlib.Core.Path.{_≡_, _∙_}
+-- Every text fits its buffer, and as many parcels are shown as stand there.
+use mathlib.Core.Path.{_≡_, refl, sym, _∙_}
+use mathlib.Core.Bool.{Bool, true, false}
 use mathlib.Core.List.{List, [], _∷_, _++_}
-use Prim.Native.Nat.{ℕ, _+_, _*_, _≤_}
+use Prim.Native.Nat.{ℕ, min, _+_, _*_, _≤_}
 use native.Mathlib.Omega.{arith}
-use lib.ListN.{length, length-append}
+use lib.ListN.{length, take, length-append}
+use lib.Seq.{take-all}
+use lib.Dec.{leb}
+use borrow.Author.Tests.{leb-true, leb-false}
 use Rattle.refusals.specs.declared.Told.{Told}
 use Rattle.text.specs.Text.{decimal, detail, parcelLine, each, ok, refused, unread, okText, refusedText, unreadText}
 use Rattle.text.proofs.Decimals.{decimal-short, detail-short}
@@ -28,3 +32,12 @@ refused-fits t =
 
 pub unread-fits : (line : ℕ) → length (unreadText line) ≤ 15384
 unread-fits line = omega (arith, length-append (unread ++ decimal line) (10 ∷ []), decimal-short line)
+
+pub take-least : (n : ℕ) (l : List ℕ) → take (min n (length l)) l ≡ take n l
+take-least n l = by (leb n (length l)) refl
+  where
+    by : (t : Bool) → leb n (length l) ≡ t → take (min n (length l)) l ≡ take n l
+    by true e = let k : min n (length l) ≡ n = omega (arith, leb-true n (length l) e) in rw k
+    by false e =
+        let h = leb-false n (length l) e in
+        take-all (min n (length l)) l (omega arith) ∙ sym (take-all n l (omega arith))

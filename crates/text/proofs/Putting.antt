@@ -78,7 +78,7 @@ pub parcel-long : (p : ℕ) → length (parcelLine p) ≡ 5
 unfolding parcelLine
 parcel-long p = refl
 
-pub puts-five : (old : List ℕ) (at a b c d e : ℕ) → at + 5 ≤ length old → Puts old at (a ∷ b ∷ c ∷ d ∷ e ∷ []) (set (set (set (set (set old at a) (at + 1) b) (at + 2) c) (at + 3) d) (at + 4) e) (at + 5)
-puts-five old at a b c d e h =
-    let z : set (set (set (set (set old at a) (at + 1) b) (at + 2) c) (at + 3) d) (at + 4) e ≡ sets old at (a ∷ b ∷ c ∷ d ∷ e ∷ []) = simp towards-suc in
-    rw z (puts-sets old at (a ∷ b ∷ c ∷ d ∷ e ∷ []) h)
+pub puts-four : (old : List ℕ) (at a b c d : ℕ) → at + 4 ≤ length old → Puts old at (a ∷ b ∷ c ∷ d ∷ []) (set (set (set (set old at a) (at + 1) b) (at + 2) c) (at + 3) d) (at + 4)
+puts-four old at a b c d h =
+    let z : set (set (set (set old at a) (at + 1) b) (at + 2) c) (at + 3) d ≡ sets old at (a ∷ b ∷ c ∷ d ∷ []) = simp towards-suc in
+    rw z (puts-sets old at (a ∷ b ∷ c ∷ d ∷ []) h)

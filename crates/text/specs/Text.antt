@@ -1,23 +1,18 @@
 -- Document 01, "The bench program": what it prints, byte by byte. Every line it prints ends with byte 10.
 use mathlib.Core.Path.{_≡_}
-use mathlib.Core.Bool.{Bool, true, false}
+use mathlib.Core.Bool.{cond}
 use mathlib.Core.List.{List, [], _∷_, _++_}
 use Prim.Native.Nat.{ℕ, zero, suc, _+_, _/_, _%_, _≤_}
 use lib.ListN.{length, take}
 use lib.IntN.{ℤ, pos, negsuc}
-use lib.Dec.{ltb}
+use lib.Dec.{ltb, eqb}
 use Rattle.io.specs.Digits.{glyph, digits}
 use Rattle.refusals.specs.declared.Told.{Told}
-
--- the first where the test holds, else the second
-abbrev pub pick : {A : Type 0} → Bool → A → A → A
-pick true a b = a
-pick false a b = b
 
 -- a number below 10^k in decimal, without leading zeros
 abbrev pub decimalBelow : ℕ → ℕ → List ℕ
 decimalBelow zero n = []
-decimalBelow (suc k) n = pick (ltb n 10) (glyph n ∷ []) (decimalBelow k (n / 10) ++ glyph (n % 10) ∷ [])
+decimalBelow (suc k) n = cond (ltb n 10) (glyph n ∷ []) (decimalBelow k (n / 10) ++ glyph (n % 10) ∷ [])
 
 unfoldable pub decimal : ℕ → List ℕ
 decimal n = decimalBelow 20 n
@@ -57,6 +52,10 @@ okText count parcels = ok ++ decimal count ++ 10 ∷ [] ++ each parcelLine parce
 -- "`refused`, tab, number, tab, first detail, tab, second"
 abbrev pub refusedText : Told → List ℕ
 refusedText t = refused ++ decimal (t .number) ++ detail (t .first) ++ detail (t .second) ++ 10 ∷ []
+
+-- an answer in numbers, with what stands in the parcels' room
+abbrev pub answerText : Told → List ℕ → List ℕ
+answerText t parcels = cond (eqb (t .number) 0) (okText (t .count) (take (t .count) parcels)) (refusedText t)
 
 -- "`unread`, tab, line number from 1"
 abbrev pub unreadText : ℕ → List ℕ

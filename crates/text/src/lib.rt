@@ -1,11 +1,11 @@
 // Answers as text, in a lent buffer.
 ghost use mathlib.Core.Path.{_≡_};
 ghost use mathlib.Core.List.{[], _∷_, _++_};
-ghost use Prim.Native.Nat.{_+_, _*_, _%_, _<_, _≤_};
-ghost use Rattle.io.specs.Digits.{glyph};
-ghost use lib.ListN.{length};
+ghost use Prim.Native.Nat.{min, _+_, _*_, _%_, _<_, _≤_};
+ghost use Rattle.io.specs.Digits.{glyph, digits};
+ghost use lib.ListN.{length, take};
 ghost use lib.IntN.{natAbs};
-ghost use Rattle.text.specs.Text.{decimal, signed, detail, parcelLine, each, okText, refusedText, unreadText, Puts, Shows};
+ghost use Rattle.text.specs.Text.{decimal, signed, detail, parcelLine, each, okText, refusedText, answerText, unreadText, Puts, Shows};
 use refusals::Told;
 
 // The last hex digit of a number.
@@ -17,7 +17,7 @@ fn digit(n: u16) -> u8
 }
 
 // One byte; the place after it.
-fn put(out: &mut [u8], at: usize, b: u8) -> usize
+pub fn put(out: &mut [u8], at: usize, b: u8) -> usize
     requires { ⌜ at < length (now out) ⌝ }
     ensures { λ r. ⌜ Puts (now (out .entry)) at (b ∷ []) (now (out .exit)) r ⌝ }
 {
@@ -26,7 +26,7 @@ fn put(out: &mut [u8], at: usize, b: u8) -> usize
 }
 
 // Bytes as they are; the place after them.
-fn put_bytes(out: &mut [u8], at: usize, bytes: &[u8]) -> usize
+pub fn put_bytes(out: &mut [u8], at: usize, bytes: &[u8]) -> usize
     requires { ⌜ at + length (now bytes) ≤ length (now out) ⌝ }
     ensures { λ r. ⌜ Puts (now (out .entry)) at (now (bytes .entry)) (now (out .exit)) r ⌝ }
 {
@@ -73,17 +73,25 @@ fn put_signed(out: &mut [u8], at: usize, z: i64) -> usize
     put_decimal(out, at, size(z))
 }
 
-// A parcel's line; the place after it.
-fn put_parcel(out: &mut [u8], at: usize, p: u16) -> usize
-    requires { ⌜ at + 5 ≤ length (now out) ⌝ }
-    ensures { λ r. ⌜ Puts (now (out .entry)) at (parcelLine p) (now (out .exit)) r ⌝ }
+// A parcel in four hex digits; the place after them.
+pub fn put_hex(out: &mut [u8], at: usize, p: u16) -> usize
+    requires { ⌜ at + 4 ≤ length (now out) ⌝ }
+    ensures { λ r. ⌜ Puts (now (out .entry)) at (digits 16 4 p) (now (out .exit)) r ⌝ }
 {
     out[at] = digit(p / 16 / 16 / 16);
     out[at + 1] = digit(p / 16 / 16);
     out[at + 2] = digit(p / 16);
     out[at + 3] = digit(p);
-    out[at + 4] = 10;
-    at + 5
+    at + 4
+}
+
+// A parcel's line; the place after it.
+fn put_parcel(out: &mut [u8], at: usize, p: u16) -> usize
+    requires { ⌜ at + 5 ≤ length (now out) ⌝ }
+    ensures { λ r. ⌜ Puts (now (out .entry)) at (parcelLine p) (now (out .exit)) r ⌝ }
+{
+    let next = put_hex(out, at, p);
+    put(out, next, 10)
 }
 
 // The parcels' lines; the place after them.
@@ -100,14 +108,14 @@ fn put_parcels(out: &mut [u8], at: usize, parcels: &[u16]) -> usize
     next
 }
 
-// A word and a number at the front; the place after them.
-fn put_head(out: &mut [u8], word: &[u8], n: u64) -> usize
-    requires { ⌜ length (now word) + 20 ≤ length (now out) ⌝ }
-    ensures { λ r. ⌜ Puts (now (out .entry)) 0 (now (word .entry) ++ decimal n) (now (out .exit)) r ⌝ }
-    ensures { λ r. ⌜ r ≤ length (now (word .entry)) + 20 ⌝ }
+// A word and a number; the place after them.
+pub fn put_head(out: &mut [u8], at: usize, word: &[u8], n: u64) -> usize
+    requires { ⌜ at + length (now word) + 20 ≤ length (now out) ⌝ }
+    ensures { λ r. ⌜ Puts (now (out .entry)) at (now (word .entry) ++ decimal n) (now (out .exit)) r ⌝ }
+    ensures { λ r. ⌜ r ≤ at + length (now (word .entry)) + 20 ⌝ }
 {
-    let at = put_bytes(out, 0, word);
-    put_decimal(out, at, n)
+    let next = put_bytes(out, at, word);
+    put_decimal(out, next, n)
 }
 
 // A tab and a detail; the place after them.
@@ -120,25 +128,60 @@ fn put_detail(out: &mut [u8], at: usize, z: i64) -> usize
     put_signed(out, next, z)
 }
 
-// An accepted list's text at the front, and its length.
-pub fn accepted(count: u32, parcels: &[u16], out: &mut [u8]) -> usize
+// The text of a refusal; the place after it.
+pub fn put_refused(out: &mut [u8], at: usize, told: Told) -> usize
+    requires { ⌜ at + 73 ≤ length (now out) ⌝ }
+    ensures { λ r. ⌜ Puts (now (out .entry)) at (refusedText told) (now (out .exit)) r ⌝ }
+{
+    let number = put_head(out, at, b"refused\t", told.number as u64);
+    let first = put_detail(out, number, told.first);
+    let second = put_detail(out, first, told.second);
+    put(out, second, 10)
+}
+
+// The text of a refusal at the front, and its length.
+fn refused(told: Told, out: &mut [u8]) -> usize
+    requires { ⌜ 15384 ≤ length (now out) ⌝ }
+    ensures { λ r. ⌜ Shows (refusedText told) (now (out .exit)) r ⌝ }
+{
+    put_refused(out, 0, told)
+}
+
+// The text of a count and parcels at the front, and its length.
+fn ok(count: u32, parcels: &[u16], out: &mut [u8]) -> usize
     requires { ⌜ (length (now parcels) ≤ 3072) × (15384 ≤ length (now out)) ⌝ }
     ensures { λ r. ⌜ Shows (okText count (now (parcels .entry))) (now (out .exit)) r ⌝ }
 {
-    let number = put_head(out, b"ok\t", count as u64);
+    let number = put_head(out, 0, b"ok\t", count as u64);
     let line = put(out, number, 10);
     put_parcels(out, line, parcels)
 }
 
-// A refused list's text at the front, and its length.
-pub fn refused(told: Told, out: &mut [u8]) -> usize
-    requires { ⌜ 15384 ≤ length (now out) ⌝ }
-    ensures { λ r. ⌜ Shows (refusedText told) (now (out .exit)) r ⌝ }
+// The smaller of two numbers.
+fn least(a: usize, b: usize) -> usize
+    ensures { λ r. ⌜ (r ≡ min a b) × (r ≤ b) ⌝ }
 {
-    let number = put_head(out, b"refused\t", told.number as u64);
-    let first = put_detail(out, number, told.first);
-    let second = put_detail(out, first, told.second);
-    put(out, second, 10)
+    if a < b { a } else { b }
+}
+
+// The text of a count and so many of the parcels at the front, and its length.
+fn accepted(count: u32, parcels: &[u16], out: &mut [u8]) -> usize
+    requires { ⌜ (length (now parcels) ≤ 3072) × (15384 ≤ length (now out)) ⌝ }
+    ensures { λ r. ⌜ Shows (okText count (take count (now (parcels .entry)))) (now (out .exit)) r ⌝ }
+{
+    let n = least(count as usize, parcels.len());
+    ok(count, &parcels[..n], out)
+}
+
+// The text of a build's answer and the parcels' room at the front, and its length.
+pub fn answered(told: Told, parcels: &[u16], out: &mut [u8]) -> usize
+    requires { ⌜ (length (now parcels) ≤ 3072) × (15384 ≤ length (now out)) ⌝ }
+    ensures { λ r. ⌜ Shows (answerText told (now (parcels .entry))) (now (out .exit)) r ⌝ }
+{
+    if told.number == 0 {
+        return accepted(told.count, parcels, out);
+    }
+    refused(told, out)
 }
 
 // An unread line's text at the front, and its length.
@@ -146,6 +189,6 @@ pub fn unread(line: u64, out: &mut [u8]) -> usize
     requires { ⌜ 15384 ≤ length (now out) ⌝ }
     ensures { λ r. ⌜ Shows (unreadText line) (now (out .exit)) r ⌝ }
 {
-    let number = put_head(out, b"unread\t", line);
+    let number = put_head(out, 0, b"unread\t", line);
     put(out, number, 10)
 }

@@ -1,43 +1,9 @@
--- Each form tiles its bits, so the laws of packing give both directions: its word reads back as its numbers, and no other word does.
-use Prim.Native.Nat.{ℕ, _+_, _-_, _<_, _^_}
+-- Each form tiles its bits, whatever its numbers.
+use Prim.Native.Nat.{ℕ}
 use native.Mathlib.Omega.{arith}
-use mathlib.Core.Path.{_≡_, refl, sym, ap, ap₂, _∙_}
-use mathlib.Core.List.{List, [], _∷_}
-use Rattle.fields.specs.Pack.{Field, bits, pack, field, Fit, values, reads, Tiles, refill}
-use Rattle.fields.proofs.Packed.{below, read-back, rebuild}
-use Rattle.computes.specs.Compute.{type2a, single, multi}
-use Rattle.words.specs.Forms.{long17a, move5a, modify19a, offset15a, jump8a, call25a, store16a, mode18a, dual1a, memory3a, loop12a, registerLoop12a, nop21a, transfer5b, modify3b, offset15b, modify3c, nop21c}
-
--- each number fits its field
-abbrev pub Small : List Field → Type 0
-Small [] = Unit
-Small (bits hi lo v ∷ fs) = (v < 2 ^ (hi + 1 - lo)) × Small fs
-
-pub tiled-fit : (top : ℕ) (fs : List Field) → Tiles top fs → Small fs → Fit top fs
-tiled-fit top [] t s = tt
-tiled-fit top (bits hi lo v ∷ fs) t s = (t .1, omega arith, s .0, tiled-fit lo fs (t .2) (s .1))
-
--- a word with the fields' numbers at the fields' places refills them as they are
-refill-same : (fs : List Field) (word : ℕ) → reads fs word ≡ values fs → refill fs word ≡ fs
-refill-same [] word e = refl
-refill-same (bits hi lo v ∷ fs) word e =
-    let first : field hi lo word ≡ v = cc in
-    let rest : reads fs word ≡ values fs = cc in
-    ap₂ (λ (n : ℕ) (gs : List Field). bits hi lo n ∷ gs) first (refill-same fs word rest)
-
--- what a form's word says: it has the form's width, reads back as the form's numbers, and is the only word that does
-pub record Faithful (top : ℕ) (fs : List Field) : Type 0 where
-  pub within : pack fs < 2 ^ top
-  pub back : reads fs (pack fs) ≡ values fs
-  pub only : (word : ℕ) → word < 2 ^ top → reads fs word ≡ values fs → word ≡ pack fs
-
--- THE LAW of every form: it is faithful where its numbers fit
-pub faithful : (top : ℕ) (fs : List Field) → Tiles top fs → Small fs → Faithful top fs
-faithful top fs t s = record {
-  within = below top fs (tiled-fit top fs t s);
-  back = read-back top fs (tiled-fit top fs t s);
-  only = λ word h e. sym (rebuild top fs word t h) ∙ ap pack (refill-same fs word e);
-}
+use Rattle.fields.specs.Pack.{Tiles}
+use Rattle.computes.specs.Compute.{type2a, single, multi, whole}
+use Rattle.words.specs.Forms.{long17a, move5a, modify19a, offset15a, jump8a, call25a, store16a, mode18a, dual1a, memory3a, loop12a, registerLoop12a, nop21a, transfer5b, modify3b, offset15b, modify3c, nop21c, leafReturn}
 
 -- three parcels
 pub tiles-single : (unit opcode rn rx ry : ℕ) → Tiles 48 (type2a (single unit opcode rn rx ry))
@@ -46,7 +12,7 @@ tiles-single unit opcode rn rx ry = omega arith
 pub tiles-multi : (opcode product destination mulX mulY aluX aluY : ℕ) → Tiles 48 (type2a (multi opcode product destination mulX mulY aluX aluY))
 tiles-multi opcode product destination mulX mulY aluX aluY = omega arith
 
-pub tiles-2a : (n : ℕ) → Tiles 48 (type2a (bits 22 0 n ∷ []))
+pub tiles-2a : (n : ℕ) → Tiles 48 (type2a (whole n))
 tiles-2a n = omega arith
 
 pub tiles-17a : (opcode code value : ℕ) → Tiles 48 (long17a opcode code value)
@@ -73,10 +39,10 @@ tiles-16a index modifier g value = omega arith
 pub tiles-18a : (bop mask : ℕ) → Tiles 48 (mode18a bop mask)
 tiles-18a bop mask = omega arith
 
-pub tiles-1a : (dmd dmi dmm pmd dmdreg pmi pmm pmdreg n : ℕ) → Tiles 48 (dual1a dmd dmi dmm pmd dmdreg pmi pmm pmdreg n)
+pub tiles-1a : (dmd dmi dmm pmd dmdreg pmi pmm pmdreg n : ℕ) → Tiles 48 (dual1a dmd dmi dmm pmd dmdreg pmi pmm pmdreg (whole n))
 tiles-1a dmd dmi dmm pmd dmdreg pmi pmm pmdreg n = omega arith
 
-pub tiles-3a : (u index modifier g d code n : ℕ) → Tiles 48 (memory3a u index modifier g d code n)
+pub tiles-3a : (u index modifier g d code n : ℕ) → Tiles 48 (memory3a u index modifier g d code (whole n))
 tiles-3a u index modifier g d code n = omega arith
 
 pub tiles-12a : (count f1 offset : ℕ) → Tiles 48 (loop12a count f1 offset)
@@ -104,3 +70,7 @@ tiles-3c code index modifier store = omega arith
 
 pub tiles-21c : Tiles 16 nop21c
 tiles-21c = omega arith
+
+-- six parcels
+pub tiles-leaf : Tiles 96 leafReturn
+tiles-leaf = omega arith

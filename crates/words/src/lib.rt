@@ -1,9 +1,8 @@
 // The word of each form, from its numbers.
 ghost use mathlib.Core.Path.{_≡_};
-ghost use mathlib.Core.List.{[], _∷_};
-ghost use Prim.Native.Nat.{_<_, _^_, _%_};
-ghost use Rattle.fields.specs.Pack.{bits, pack};
-ghost use Rattle.computes.specs.Compute.{type2a};
+ghost use Prim.Native.Nat.{_<_, _^_};
+ghost use Rattle.fields.specs.Pack.{pack};
+ghost use Rattle.computes.specs.Compute.{type2a, whole};
 ghost use Rattle.words.specs.Forms.{bitOf, conditionCode, isStore, isPost, isF1, long17a, move5a, modify19a, offset15a, jump8a, call25a, store16a, mode18a, dual1a, memory3a, loop12a, registerLoop12a, transfer5b, modify3b, offset15b, modify3c};
 use items::Condition;
 use items::Direction;
@@ -64,7 +63,7 @@ pub fn is_f1(m: LoopMode) -> bool
 
 // Type 2a around a compute's field.
 pub fn field_word(field: u32) -> u64
-    ensures { λ r. ⌜ r ≡ pack (type2a (bits 22 0 field ∷ [])) ⌝ }
+    ensures { λ r. ⌜ r ≡ pack (type2a (whole field)) ⌝ }
 {
     (0x13e << 32) + field as u64
 }
@@ -118,15 +117,11 @@ pub fn call_word(target: u32) -> u64
     (0x1804 << 32) + target as u64
 }
 
-// Type 16a, of an index and a modifier taken modulo 8.
+// Type 16a.
 pub fn store_word(index: u8, modifier: u8, g: bool, value: u32) -> u64
-    ensures { λ r. ⌜ r ≡ pack (store16a (index % 8) (modifier % 8) (bitOf g) value) ⌝ }
+    ensures { λ r. ⌜ r ≡ pack (store16a index modifier (bitOf g) value) ⌝ }
 {
-    (0x9 << 44)
-        + ((index as u64) % 8 << 41)
-        + ((modifier as u64) % 8 << 38)
-        + (bit(g) << 37)
-        + value as u64
+    (0x9 << 44) + ((index as u64) << 41) + ((modifier as u64) << 38) + (bit(g) << 37) + value as u64
 }
 
 // Type 18a.
@@ -136,7 +131,7 @@ pub fn mode_word(clear: bool, mask: u32) -> u64
     (0x1402 << 32) + (bit(clear) << 37) + mask as u64
 }
 
-// Type 1a, of a PM index and modifier taken modulo 8.
+// Type 1a.
 pub fn dual_word(
     dmd: bool,
     dmi: u8,
@@ -148,7 +143,7 @@ pub fn dual_word(
     pmdreg: u8,
     field: u32,
 ) -> u64
-    ensures { λ r. ⌜ r ≡ pack (dual1a (bitOf dmd) dmi dmm (bitOf pmd) dmdreg (pmi % 8) (pmm % 8) pmdreg field) ⌝ }
+    ensures { λ r. ⌜ r ≡ pack (dual1a (bitOf dmd) dmi dmm (bitOf pmd) dmdreg pmi pmm pmdreg (whole field)) ⌝ }
 {
     (1 << 45)
         + (bit(dmd) << 44)
@@ -156,20 +151,20 @@ pub fn dual_word(
         + ((dmm as u64) << 38)
         + (bit(pmd) << 37)
         + ((dmdreg as u64) << 33)
-        + ((pmi as u64) % 8 << 30)
-        + ((pmm as u64) % 8 << 27)
+        + ((pmi as u64) << 30)
+        + ((pmm as u64) << 27)
         + ((pmdreg as u64) << 23)
         + field as u64
 }
 
-// Type 3a, of an index and a modifier taken modulo 8.
+// Type 3a.
 pub fn memory_word(u: bool, index: u8, modifier: u8, g: bool, d: bool, code: u8, field: u32) -> u64
-    ensures { λ r. ⌜ r ≡ pack (memory3a (bitOf u) (index % 8) (modifier % 8) (bitOf g) (bitOf d) code field) ⌝ }
+    ensures { λ r. ⌜ r ≡ pack (memory3a (bitOf u) index modifier (bitOf g) (bitOf d) code (whole field)) ⌝ }
 {
     (0x403e << 32)
         + (bit(u) << 44)
-        + ((index as u64) % 8 << 41)
-        + ((modifier as u64) % 8 << 38)
+        + ((index as u64) << 41)
+        + ((modifier as u64) << 38)
         + (bit(g) << 32)
         + (bit(d) << 31)
         + ((code as u64) << 23)

@@ -31,7 +31,7 @@ use denote.Struct.Laws as LL
 use denote.Struct.Rest.{all-own, own-open}
 use denote.Triple.Walked.{Stay, Fields, stay-none, gave-slice, stay-dropped, stay-struct-at, stay-declared, Goes, FieldsGo, goes-none, goes-gave-slice, goes-spent-slice, goes-struct-at, goes-declared}
 use Rattle.writer.specs.declared.Writer.{Writer}
-use Rattle.writer.proofs.Plain.{and-number}
+use Rattle.walks.proofs.Plain.{and-number}
 use Rattle.writer.proofs.Writer as T
 use Rattle.writer.proofs.Writer.Laws as T′
 

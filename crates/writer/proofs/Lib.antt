@@ -1,10 +1,3 @@
-pub mod Again
 pub mod Held
-pub mod Lent
-pub mod Local
 pub mod Opened
-pub mod Parts
-pub mod Plain
-pub mod Shared
 pub mod Stores
-pub mod Walk

@@ -20,8 +20,8 @@ use denote.Laws.{Is, shows}
 use denote.Steps.{peeks, heard, nothing}
 use denote.Triple.Statement.{Contract, Triple}
 use Rattle.writer.specs.declared.Writer.{Writer}
-use Rattle.writer.proofs.Plain.{and-number}
-use Rattle.writer.proofs.Walk.{ContractOf, calls-met}
+use Rattle.walks.proofs.Plain.{and-number}
+use Rattle.walks.proofs.Walk.{ContractOf, calls-met}
 use Rattle.writer.proofs.Held.{ParcelsAt, WriterAt, sliceOf}
 use Rattle.writer.proofs.open as open′
 use Rattle.writer.proofs.open.Symbol.{name as #writer·open}

@@ -1,16 +1,19 @@
 //! Prints the stored samples: rows for `oracle rows`, lists for `oracle lists`, inputs of the bench
-//! program for `oracle benches`.
+//! program for `oracle benches`; and a kernel of the kind that is timed.
 
 use std::io::{self, BufWriter, Write};
 use std::process::ExitCode;
 
 use visa_oracle::bench;
+use visa_oracle::kernels;
+use visa_oracle::random::Random;
 use visa_oracle::row;
 use visa_oracle::sample_benches;
 use visa_oracle::sample_lists;
 use visa_oracle::sample_rows;
 
-const USAGE: &str = "usage: sample rows  |  sample lists  |  sample benches [KERNEL-FILE...]";
+const USAGE: &str = "usage: sample rows  |  sample lists  |  sample benches [KERNEL-FILE...]
+       sample kernel ITEMS";
 
 fn main() -> ExitCode {
     let words: Vec<String> = std::env::args().skip(1).collect();
@@ -18,6 +21,7 @@ fn main() -> ExitCode {
         ["rows"] => Ok(rows()),
         ["lists"] => Ok(sample_lists::sample()),
         ["benches", files @ ..] => benches(files),
+        ["kernel", items] => kernel(items),
         _ => Err(USAGE.to_string()),
     };
     match text.and_then(|text| print(&text)) {
@@ -47,4 +51,11 @@ fn benches(files: &[&str]) -> Result<Vec<u8>, String> {
         inputs.push(std::fs::read(file).map_err(|error| format!("{file}: {error}"))?);
     }
     Ok(inputs.iter().flat_map(|input| bench::ended(input)).collect())
+}
+
+/// The lines of a kernel of so many items.
+fn kernel(items: &str) -> Result<Vec<u8>, String> {
+    let items: usize = items.parse().map_err(|_| USAGE.to_string())?;
+    let list = kernels::kernel(&mut Random::new(1, items as u64), items, kernels::SPARSE);
+    Ok(list.rows().flat_map(|row| [list.write_line(row), b"\n".to_vec()].concat()).collect())
 }

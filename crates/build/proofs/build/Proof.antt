@@ -26,11 +26,12 @@ use denote.Steps.{nothing}
 use denote.Triple.Statement.{Triple}
 use denote.Triple.Table.{cited}
 use denote.Triple.Walked.{Stays, stay-dropped, gave-slice, walkOf, goes-dropped, goes-gave-slice}
-use Rattle.writer.proofs.Walk.{WalkAt, whole-of, field-of, stores, lands-in, frees-at, ContractOf, by-walk}
-use Rattle.writer.proofs.Parts.{number-value, fits, made, starts, calls, finishes}
-use Rattle.writer.proofs.Lent.{slice, under, ref-of, slice-of, copied, lends, back, gave}
+use Rattle.walks.proofs.Walk.{WalkAt, whole-of, field-of, stores, lands-in, frees-at, ContractOf, by-walk}
+use Rattle.walks.proofs.Parts.{number-value, fits, made, starts, calls, finishes}
+use Rattle.walks.proofs.Lent.{slice, under, ref-of, slice-of, copied, lends, back, gave}
 use Rattle.places.specs.declared.OpenLoop.{OpenLoop}
 use Rattle.places.specs.Items.{roomsOf}
+use Rattle.places.specs.Left.{lentOf}
 use Rattle.places.proofs.OpenLoop as loop
 use Rattle.taking.specs.Taking.{Took}
 use Rattle.taking.proofs.Values.{rooms-value, taking-value, answer-value}
@@ -81,7 +82,7 @@ module _ {M : Type 1} (𝓤 : URA M) (H : Heap 𝓤) (A : Atoms 𝓤) (W : Given
       lends ! tt u16 (named 2) (named 2) κ₂ q₂ parcels (parcels .now) refl (λ ν₂-parcels δ₂-parcels. move ! (68 ∷ 73 ∷ []) $ lends ! tt u32 (named 3) (named 3) κ₃ q₃ labels (labels .now) refl (λ ν₂-labels δ₂-labels. move ! (70 ∷ 74 ∷ []) $
       lends ! tt u32 (named 4) (named 4) κ₄ q₄ jumps (jumps .now) refl (λ ν₂-jumps δ₂-jumps. move ! (72 ∷ 0 ∷ 3 ∷ 6 ∷ 73 ∷ 74 ∷ 75 ∷ 1 ∷ 4 ∷ 7 ∷ 9 ∷ 10 ∷ 12 ∷ []) $
       calls W ! take-rows.ended (take-rows.clauses 𝓤 H A mem run) (((κ₀, (κ₁, (ν₂-parcels ∷ [], (ν₂-labels ∷ [], (ν₂-jumps ∷ [], (κ₅, tt)))))), (q₀, (q₁, (fullShare, (fullShare, (fullShare, (q₅, tt)))))), tt, (rows, (names, (r₁, (under parcels δ₂-parcels (parcels .now), (under labels δ₂-labels (labels .now), (under jumps δ₂-jumps (jumps .now), (loops, tt))))))), (slice rows ∷ [], (slice names ∷ [], (rooms-value .val r₁ ∷ [], (slice parcels ∷ [], (slice labels ∷ [], (slice jumps ∷ [], (slice loops ∷ [], tt)))))))), tt) taking-value
-      (λ r ws. Took (rows .now) (names .now) r₁ (parcels .now) (labels .now) (jumps .now) (loops .now) r (ws .1 .1 .1 .0) (ws .1 .1 .1 .1 .0) (ws .1 .1 .1 .1 .1 .0) (ws .1 .1 .1 .1 .1 .1 .0)) (λ r ws. id⊢ 𝓤 _) fm known₂ (factI 𝓤 _ (emp 𝓤) (rooming-of e₁)) (and-then ! (whole-of ! 60 refl) (and-then ! (whole-of ! 58 refl) (and-then ! (whole-of ! 48 refl) (and-then ! (whole-of ! 34 refl) (and-then ! (whole-of ! 30 refl) (and-then ! (whole-of ! 26 refl) (and-then ! (whole-of ! 22 refl) (no-more !)))))))) (λ r₂ ws₂ is₂ e₂.
+      (λ r ws. Took (rows .now) (names .now) r₁ (lentOf (parcels .now) (labels .now) (jumps .now) (loops .now)) r (lentOf (ws .1 .1 .1 .0) (ws .1 .1 .1 .1 .0) (ws .1 .1 .1 .1 .1 .0) (ws .1 .1 .1 .1 .1 .1 .0))) (λ r ws. id⊢ 𝓤 _) fm known₂ (factI 𝓤 _ (emp 𝓤) (rooming-of e₁)) (and-then ! (whole-of ! 60 refl) (and-then ! (whole-of ! 58 refl) (and-then ! (whole-of ! 48 refl) (and-then ! (whole-of ! 34 refl) (and-then ! (whole-of ! 30 refl) (and-then ! (whole-of ! 26 refl) (and-then ! (whole-of ! 22 refl) (no-more !)))))))) (λ r₂ ws₂ is₂ e₂.
       lands-in ! 58 refl (fits W taking-value r₂ is₂ .0) $ move ! (3 ∷ 15 ∷ 9 ∷ []) $ back ! tt u16 (named 2) (named 2) κ₂ q₂ parcels (parcels .now) refl room-parcels ν₂-parcels δ₂-parcels (ws₂ .1 .1 .1 .0) (λ len₂-parcels.
       move ! (4 ∷ 14 ∷ 9 ∷ []) $ back ! tt u32 (named 3) (named 3) κ₃ q₃ labels (labels .now) refl room-labels ν₂-labels δ₂-labels (ws₂ .1 .1 .1 .1 .0) (λ len₂-labels. move ! (5 ∷ 13 ∷ 9 ∷ []) $
       back ! tt u32 (named 4) (named 4) κ₄ q₄ jumps (jumps .now) refl room-jumps ν₂-jumps δ₂-jumps (ws₂ .1 .1 .1 .1 .1 .0) (λ len₂-jumps. move ! (9 ∷ []) $ gave ! loop.the-row (loops .name) (loops .now) (ws₂ .1 .1 .1 .1 .1 .1 .0) (λ len₂-loops.

@@ -28,11 +28,12 @@ use denote.Steps.{nothing}
 use denote.Triple.Statement.{Triple}
 use denote.Triple.Table.{cited}
 use denote.Triple.Walked.{Stays, stay-dropped, gave-slice, walkOf, goes-dropped, goes-gave-slice}
-use Rattle.writer.proofs.Walk.{WalkAt, whole-of, stores, lands-in, frees-at, ContractOf, by-walk}
-use Rattle.writer.proofs.Parts.{fits, starts, calls, finishes}
-use Rattle.writer.proofs.Lent.{slice, ref-of, slice-of, lends-local, back-local, gave}
+use Rattle.walks.proofs.Walk.{WalkAt, whole-of, stores, lands-in, frees-at, ContractOf, by-walk}
+use Rattle.walks.proofs.Parts.{fits, starts, calls, finishes}
+use Rattle.walks.proofs.Lent.{slice, ref-of, slice-of, lends-local, back-local, gave}
 use Rattle.places.specs.declared.OpenLoop.{OpenLoop}
-use Rattle.places.specs.Build.{zeroLoop, buildOf, Left}
+use Rattle.refusals.specs.Numbers.{answered}
+use Rattle.places.specs.Left.{lentOf, zeroLoop, Builds}
 use Rattle.places.proofs.OpenLoop as loop
 use Rattle.taking.proofs.Values.{loop-value, zero-is, answer-value}
 use Rattle.build.proofs.Table.{table, table-val, table-is, table-room, table-typed}
@@ -65,13 +66,13 @@ module _ {M : Type 1} (𝓤 : URA M) (H : Heap 𝓤) (A : Atoms 𝓤) (W : Given
       -- `build`
       move ! (16 ∷ []) $ lends-local ! tt loop.the-row tt (loop-value .makes 𝓤 H A W) 64 l₇ (named 5) table table-val table-is table-room (λ ν₁ δ₁. move ! (0 ∷ 34 ∷ 35 ∷ 36 ∷ 37 ∷ 38 ∷ 1 ∷ 39 ∷ 40 ∷ 41 ∷ 42 ∷ 43 ∷ []) $
       calls W ! build.ended (build.clauses 𝓤 H A mem run) (((κ₀, (κ₁, (κ₂, (κ₃, (κ₄, (ν₁ ∷ [], tt)))))), (q₀, (q₁, (q₂, (q₃, (q₄, (fullShare, tt)))))), tt, (rows, (names, (parcels, (labels, (jumps, (record { ptr = (l₇, 0); name = δ₁; now = table }, tt)))))), (slice rows ∷ [], (slice names ∷ [], (slice parcels ∷ [], (slice labels ∷ [], (slice jumps ∷ [], (sliceVal (l₇, 0) (length table) ∷ [], tt))))))), tt) answer-value
-      (λ r ws. Left (buildOf (rows .now) (names .now) (parcels .now) (labels .now) (jumps .now) table) r (ws .1 .1 .0) (ws .1 .1 .1 .0) (ws .1 .1 .1 .1 .0) (ws .1 .1 .1 .1 .1 .0)) (λ r ws. id⊢ 𝓤 _) fm known₁ (id⊢ 𝓤 _) (and-then ! (whole-of ! 29 refl) (and-then ! (whole-of ! 27 refl) (and-then ! (whole-of ! 14 refl) (and-then ! (whole-of ! 10 refl) (and-then ! (whole-of ! 6 refl) (and-then ! (whole-of ! 2 refl) (no-more !))))))) (λ r₁ ws₁ is₁ e₁.
+      (λ r ws. Builds (rows .now) (names .now) (lentOf (parcels .now) (labels .now) (jumps .now) table) (answered r) (lentOf (ws .1 .1 .0) (ws .1 .1 .1 .0) (ws .1 .1 .1 .1 .0) (ws .1 .1 .1 .1 .1 .0))) (λ r ws. id⊢ 𝓤 _) fm known₁ (id⊢ 𝓤 _) (and-then ! (whole-of ! 29 refl) (and-then ! (whole-of ! 27 refl) (and-then ! (whole-of ! 14 refl) (and-then ! (whole-of ! 10 refl) (and-then ! (whole-of ! 6 refl) (and-then ! (whole-of ! 2 refl) (no-more !))))))) (λ r₁ ws₁ is₁ e₁.
       lands-in ! 42 refl (fits W answer-value r₁ is₁ .0) $ move ! (9 ∷ []) $ gave ! u16 (parcels .name) (parcels .now) (ws₁ .1 .1 .0) (λ len₁-parcels. move ! (9 ∷ []) $ gave ! u32 (labels .name) (labels .now) (ws₁ .1 .1 .1 .0) (λ len₁-labels.
       move ! (9 ∷ []) $ gave ! u32 (jumps .name) (jumps .now) (ws₁ .1 .1 .1 .1 .0) (λ len₁-jumps. move ! (3 ∷ 12 ∷ 9 ∷ []) $ back-local ! tt loop.the-row tt (loop-value .makes 𝓤 H A W) 64 l₇ ν₁ δ₁ table (ws₁ .1 .1 .1 .1 .1 .0) $
       returns ! (look ! 40 refl) $
       frees-at ! 40 refl refl $ frees-at ! 38 refl refl $ frees-at ! 36 refl refl $ frees-at ! 34 refl refl $ frees-at ! 32 refl refl $ frees-at ! 30 refl refl $ frees-at ! 28 refl refl $ move ! (0 ∷ 27 ∷ []) $ free1 ! $ frees-at ! 24 refl refl $ frees-at ! 22 refl refl $ frees-at ! 20 refl refl $ frees-at ! 18 refl refl $ frees-at ! 16 refl refl $ frees-at ! 14 refl refl $ frees-at ! 12 refl refl $ frees-at ! 10 refl refl $ free0 ! $
       nothing ! $ nothing ! $ keep ! (5 ∷ 6 ∷ 7 ∷ 8 ∷ 9 ∷ 2 ∷ 3 ∷ 4 ∷ 1 ∷ 0 ∷ []) $
-      finishes W ! build-alone.ended (build-alone.clauses 𝓤 H A mem run) stayed y answer-value r₁ (tt, (tt, ((ws₁ .1 .1 .0), ((ws₁ .1 .1 .1 .0), ((ws₁ .1 .1 .1 .1 .0), tt))))) is₁ (tt, (tt, (len₁-parcels, (len₁-labels, (len₁-jumps, tt))))) (factI 𝓤 _ (emp 𝓤) (subst (λ (k : List OpenLoop). Left (buildOf (rows .now) (names .now) (parcels .now) (labels .now) (jumps .now) table) r₁ (ws₁ .1 .1 .0) (ws₁ .1 .1 .1 .0) (ws₁ .1 .1 .1 .1 .0) k) (e₁ .loops) e₁)))))))))))))))))))))))
+      finishes W ! build-alone.ended (build-alone.clauses 𝓤 H A mem run) stayed y answer-value r₁ (tt, (tt, ((ws₁ .1 .1 .0), ((ws₁ .1 .1 .1 .0), ((ws₁ .1 .1 .1 .1 .0), tt))))) is₁ (tt, (tt, (len₁-parcels, (len₁-labels, (len₁-jumps, tt))))) (factI 𝓤 _ (emp 𝓤) (subst (λ (k : List OpenLoop). Builds (rows .now) (names .now) (lentOf (parcels .now) (labels .now) (jumps .now) table) (answered r₁) (lentOf (ws₁ .1 .1 .0) (ws₁ .1 .1 .1 .0) (ws₁ .1 .1 .1 .1 .0) k)) (e₁ .loops) e₁)))))))))))))))))))))))
 
 pub build-alone-spec : {M : Type 1} → stated.statement M
 unfolding code.routine

@@ -1,88 +1,66 @@
+-- The rows' refusal, or the waiting jumps'; a refusal wipes what the rows took.
 use mathlib.Core.Path.{refl, sym, _∙_}
 use borrow.Author.Needs.{needs}
 use Rattle.build.proofs.finish.Statement.{statement}
 use Rattle.build.proofs.finish.Tie as tie
-use Rattle.build.proofs.finish.Reads as reads
-use Rattle.build.proofs.finish.Lts as lts
-use Rattle.build.proofs.jumps.aim_all.Reads as aim-all-reads
-use Rattle.build.proofs.wipes.refused.Reads as refused-reads
 
--- src/lib.rt:32:26
 enum-known-verdict : tie.Need-enum-known-verdict
 enum-known-verdict c = search needs
 
--- src/lib.rt:33:13
 refused-requires : tie.Need-refused-requires
 refused-requires c κs = search needs
 
--- src/lib.rt:33:13
 same-length : tie.Need-same-length
 same-length c = search needs
 
--- src/lib.rt:33:13
 same-length-2 : tie.Need-same-length-2
 same-length-2 c = search needs
 
--- src/lib.rt:33:13
 same-length-3 : tie.Need-same-length-3
 same-length-3 c = search needs
 
--- src/lib.rt:33:13
 returns : tie.Need-returns
 returns c = λ k. rw (c .before .before .before .before .before .before .before .before .before .before .before .verdict .given .1) (c .before .before .before .before .before .before .refused .ensures k)
 
 enum-told : tie.Need-enum-told
 enum-told c = search needs
 
--- src/lib.rt:37:9
 aim-all-requires : tie.Need-aim-all-requires
 aim-all-requires c κs = c .before .before .before .before .before .before .before .before .before .before .before .pre .aims (c .before .before .before .enum-told .given .1)
 
--- src/lib.rt:47:26
 enum-known-aims : tie.Need-enum-known-aims
 enum-known-aims c = search needs
 
--- src/lib.rt:47:32
 refused-requires-2 : tie.Need-refused-requires-2
 refused-requires-2 c κs = search needs
 
--- src/lib.rt:48:43
 enum-told-2 : tie.Need-enum-told-2
 enum-told-2 c = search needs
 
--- src/lib.rt:48:43
 cast-t31 : tie.Need-cast-t31
 cast-t31 c = search needs
 
--- src/lib.rt:18:1
 same-length-4 : tie.Need-same-length-4
 same-length-4 c = search needs
 
--- src/lib.rt:18:1
 same-length-5 : tie.Need-same-length-5
 same-length-5 c = search needs
 
--- src/lib.rt:18:1
 same-length-6 : tie.Need-same-length-6
 same-length-6 c = search needs
 
--- src/lib.rt:18:1
 returns-2 : tie.Need-returns-2
 returns-2 c = λ k. rw (c .before .before .before .before .before .before .before .before .before .before .before .before .before .before .before .before .before .before .before .enum-told .given .1, sym (c .before .before .before .before .before .before .before .before .before .before .before .before .before .before .before .aim-all .ensures .outcome) ∙ c .before .before .before .before .before .before .before .before .before .before .before .aims .given .1, ← c .before .before .before .before .before .before .before .before .before .before .before .before .before .before .before .aim-all .ensures .here) (c .before .before .before .before .before .before .refused2 .ensures k)
 
--- src/lib.rt:18:1
 same-length-7 : tie.Need-same-length-7
 same-length-7 c = search needs
 
--- src/lib.rt:18:1
 same-length-8 : tie.Need-same-length-8
 same-length-8 c = search needs
 
--- src/lib.rt:18:1
 same-length-9 : tie.Need-same-length-9
 same-length-9 c = search needs
 
--- src/lib.rt:18:1
 returns-3 : tie.Need-returns-3
 returns-3 c = λ k. rw (c .before .before .before .before .before .before .before .before .before .enum-told .given .1, sym (c .before .before .before .before .before .aim-all .ensures .outcome) ∙ c .before .enum-told2 .given .1) (record { answer = refl; parcels = c .before .before .before .before .before .aim-all .ensures .here; labels = refl; jumps = refl; loops = refl })
 

@@ -1,7 +1,6 @@
 -- The count after i rows is `Tallying`'s.
 use mathlib.Core.Path.{refl, sym, _∙_}
 use Prim.Native.Nat.{_-_}
-use denote.Ref.{now}
 use borrow.Author.Count.{below-none}
 use borrow.Author.Tests.{not-false}
 use borrow.Author.Needs.{needs}
@@ -26,8 +25,8 @@ returns c = rw (← c .before .well-formed .ensures, c .if1 .taken)
 loop-holds : tie.Need-loop-holds Inv-loop μ-loop
 loop-holds c = record { few = rows-few _ (sym (c .before .well-formed .ensures) ∙ not-false _ (c .if1 .left)); within = search needs; good = below-none _; here = refl; small = search needs }
 
-entry-at-requires : tie.Need-entry-at-requires Inv-loop μ-loop
-entry-at-requires c κs = search needs
+coded-at-requires : tie.Need-coded-at-requires Inv-loop μ-loop
+coded-at-requires c κs = search needs
 
 count-row-requires : tie.Need-count-row-requires Inv-loop μ-loop
 count-row-requires c κs = search needs
@@ -36,13 +35,13 @@ enum-known-one : tie.Need-enum-known-one Inv-loop μ-loop
 enum-known-one c = search needs
 
 add-count : tie.Need-add-count Inv-loop μ-loop
-add-count c = record { fits = tally-fits (c .before .before .before .before .before .before .loop .inv) (c .before .before .before .before .before .loop-test .taken) (sym (c .before .one .given .1) ∙ c .before .before .before .count-row .ensures (rowAt (now (c .before .before .before .before .before .before .before .before .before .before .before .args .rows)) (now (c .before .before .before .before .before .before .before .before .before .before .before .args .names)) (c .before .before .before .before .before .before .loop .i)) (c .before .before .before .before .entry-at .ensures)) }
+add-count c = let counted = rw (c .before .before .before .before .coded-at .ensures) at (c .before .before .before .count-row .ensures) in record { fits = tally-fits (c .before .before .before .before .before .before .loop .inv) (c .before .before .before .before .before .loop-test .taken) (sym (c .before .one .given .1) ∙ counted) }
 
 enum-known-one-2 : tie.Need-enum-known-one-2 Inv-loop μ-loop
 enum-known-one-2 c = search needs
 
 returns-2 : tie.Need-returns-2 Inv-loop μ-loop
-returns-2 c = rw (← c .before .before .before .before .before .before .before .before .well-formed .ensures, not-false (c .before .before .before .before .before .before .before .before .well-formed .result) (c .before .before .before .before .before .before .before .if1 .left), tally-stop (c .before .before .before .before .before .before .loop .inv) (c .before .before .before .before .before .loop-test .taken) {r = c .before .one2 .given .0 .0} (sym (c .before .one2 .given .1) ∙ c .before .before .before .count-row .ensures (rowAt (now (c .before .before .before .before .before .before .before .before .before .before .before .args .rows)) (now (c .before .before .before .before .before .before .before .before .before .before .before .args .names)) (c .before .before .before .before .before .before .loop .i)) (c .before .before .before .before .entry-at .ensures)))
+returns-2 c = let counted = rw (c .before .before .before .before .coded-at .ensures) at (c .before .before .before .count-row .ensures) in rw (← c .before .before .before .before .before .before .before .before .well-formed .ensures, not-false (c .before .before .before .before .before .before .before .before .well-formed .result) (c .before .before .before .before .before .before .before .if1 .left), tally-stop (c .before .before .before .before .before .before .loop .inv) (c .before .before .before .before .before .loop-test .taken) {r = c .before .one2 .given .0 .0} (sym (c .before .one2 .given .1) ∙ counted))
 
 add-i : tie.Need-add-i Inv-loop μ-loop
 add-i c = search needs
@@ -51,7 +50,7 @@ loop-less : tie.Need-loop-less Inv-loop μ-loop
 loop-less c = search needs
 
 loop-again : tie.Need-loop-again Inv-loop μ-loop
-loop-again c = tally-next (c .before .before .before .before .before .before .loop .inv) (c .before .before .before .before .before .loop-test .taken) (sym (c .before .one .given .1) ∙ c .before .before .before .count-row .ensures (rowAt (now (c .before .before .before .before .before .before .before .before .before .before .before .args .rows)) (now (c .before .before .before .before .before .before .before .before .before .before .before .args .names)) (c .before .before .before .before .before .before .loop .i)) (c .before .before .before .before .entry-at .ensures))
+loop-again c = let counted = rw (c .before .before .before .before .coded-at .ensures) at (c .before .before .before .count-row .ensures) in tally-next (c .before .before .before .before .before .before .loop .inv) (c .before .before .before .before .before .loop-test .taken) (sym (c .before .one .given .1) ∙ counted)
 
 returns-3 : tie.Need-returns-3 Inv-loop μ-loop
 returns-3 c = let e = tally-end (c .before .loop .inv) (c .loop-test .left) in rw (← c .before .before .before .well-formed .ensures, not-false (c .before .before .before .well-formed .result) (c .before .before .if1 .left), e .0, e .1)
@@ -65,7 +64,7 @@ count-spec =
     well-formed-requires
     returns
     loop-holds
-    entry-at-requires
+    coded-at-requires
     count-row-requires
     enum-known-one
     add-count

@@ -1,15 +1,13 @@
--- Entry by entry; an instruction by what `encoded` gives.
-use Rattle.entries.proofs.Back.{back, instruction-held}
-use Rattle.counts.proofs.Forms.{form-parcels}
+-- By the row; an instruction by its form.
 use borrow.Author.Needs.{needs}
 use Rattle.counts.proofs.parcels_of.Statement.{statement}
 use Rattle.counts.proofs.parcels_of.Tie as tie
 
-enum-known-entry : tie.Need-enum-known-entry
-enum-known-entry c = search needs
+enum-known-row : tie.Need-enum-known-row
+enum-known-row c = search needs
 
-encoded-requires : tie.Need-encoded-requires
-encoded-requires c κs = search needs
+form-count-requires : tie.Need-form-count-requires
+form-count-requires c κs = search needs
 
 enum-told : tie.Need-enum-told
 enum-told c = search needs
@@ -23,38 +21,38 @@ enum-told-3 c = search needs
 enum-told-4 : tie.Need-enum-told-4
 enum-told-4 c = search needs
 
-enum-known-entry-2 : tie.Need-enum-known-entry-2
-enum-known-entry-2 c = search needs
+enum-known-row-2 : tie.Need-enum-known-row-2
+enum-known-row-2 c = search needs
 
 returns : tie.Need-returns
-returns c = λ rd e. let q = c .before .before .entry .given .1 in form-parcels (back rd e q) (instruction-held rd e q .form) (c .encoded .ensures)
+returns c = rw (c .before .before .row .given .1) (c .form-count .ensures)
 
 returns-2 : tie.Need-returns-2
-returns-2 c = λ rd e. rw (back rd e (c .enum-told .given .1))
+returns-2 c = rw (c .enum-told .given .1)
 
 returns-3 : tie.Need-returns-3
-returns-3 c = λ rd e. rw (back rd e (c .enum-told2 .given .1))
+returns-3 c = rw (c .enum-told2 .given .1)
 
 returns-4 : tie.Need-returns-4
-returns-4 c = λ rd e. rw (back rd e (c .enum-told3 .given .1))
+returns-4 c = rw (c .enum-told3 .given .1)
 
 returns-5 : tie.Need-returns-5
-returns-5 c = λ rd e. rw (back rd e (c .enum-told4 .given .1))
+returns-5 c = rw (c .enum-told4 .given .1)
 
 returns-6 : tie.Need-returns-6
-returns-6 c = λ rd e. rw (back rd e (c .before .entry2 .given .1))
+returns-6 c = rw (c .before .row2 .given .1)
 
 pub parcels-of-spec : {M : Type 1} → statement M
 parcels-of-spec =
     tie.close
     (tie.spec
-    enum-known-entry
-    encoded-requires
+    enum-known-row
+    form-count-requires
     enum-told
     enum-told-2
     enum-told-3
     enum-told-4
-    enum-known-entry-2
+    enum-known-row-2
     returns
     returns-2
     returns-3

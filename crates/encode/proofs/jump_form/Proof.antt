@@ -2,7 +2,7 @@
 use native.Mathlib.Omega.{arith}
 use mir.Facts.{toZ-ofZ}
 use lib.Dec.{lit≤}
-use mathlib.Core.Path.{ap, sym, _∙_}
+use mathlib.Core.Path.{ap, refl, sym, _∙_}
 use borrow.Author.Needs.{needs}
 use Rattle.encode.proofs.Offsets.{tested-mag}
 use Rattle.encode.specs.Encoding.{jumpForm}
@@ -15,7 +15,7 @@ fold-requires c κs = (omega (arith, tested-mag 0x7f_ffff (c .before .before .fi
 
 returns : tie.Need-returns
 unfolding jumpForm
-returns c = rw (← toZ-ofZ (c .before .before .before .before .fits .offset), sym (c .before .before .before .within .ensures) ∙ c .before .before .if1 .taken, ← c .before .fold .ensures .0) (ap Word (c .jump-word .ensures))
+returns c = rw (← toZ-ofZ (c .before .before .before .before .fits .offset), sym (c .before .before .before .within .ensures) ∙ c .before .before .if1 .taken, ← c .before .fold .ensures .0 24 refl) (ap Word (c .jump-word .ensures))
 
 returns-2 : tie.Need-returns-2
 unfolding jumpForm

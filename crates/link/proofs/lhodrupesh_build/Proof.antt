@@ -25,24 +25,24 @@ use denote.Steps.{nothing}
 use denote.Triple.Statement.{Triple}
 use denote.Triple.Table.{cited}
 use denote.Triple.Walked.{Stays, stay-dropped, gave-slice, walkOf, goes-dropped, goes-gave-slice}
-use Rattle.writer.proofs.Walk.{WalkAt, whole-of, stores, lands-in, frees-at, ContractOf, by-walk}
-use Rattle.writer.proofs.Parts.{fits, made, starts, calls, finishes}
-use Rattle.writer.proofs.Lent.{slice, ref-of, slice-of, gave}
+use Rattle.walks.proofs.Walk.{WalkAt, whole-of, stores, lands-in, frees-at, ContractOf, by-walk}
+use Rattle.walks.proofs.Parts.{fits, made, starts, calls, finishes}
+use Rattle.walks.proofs.Lent.{slice, ref-of, slice-of, gave}
 use Rattle.places.specs.declared.OpenLoop.{OpenLoop}
-use Rattle.places.specs.Build.{buildOf, Left}
+use Rattle.refusals.specs.Numbers.{answered}
+use Rattle.places.specs.Left.{lentOf, Builds}
 use Rattle.places.proofs.OpenLoop as loop
 use Rattle.taking.proofs.Values.{answer-value}
-use Rattle.link.specs.Told.{answeredAs}
 use Rattle.link.proofs.Values.{told-value}
 use Rattle.link.proofs.Whole.{told-is}
 use Rattle.build.proofs.build as build
 use Rattle.build.proofs.build.Symbol as build-def
 use Rattle.build.proofs.build.Symbol.{name as #build·build}
 use Rattle.build.proofs.build.Met as build-thm
-use Rattle.link.proofs.answered as answered
-use Rattle.link.proofs.answered.Symbol as answered-def
-use Rattle.link.proofs.answered.Symbol.{name as #link·answered}
-use Rattle.link.proofs.answered.Met as answered-thm
+use Rattle.refusals.proofs.answered as in-numbers
+use Rattle.refusals.proofs.answered.Symbol as in-numbers-def
+use Rattle.refusals.proofs.answered.Symbol.{name as #refusals·answered}
+use Rattle.refusals.proofs.answered.Met as in-numbers-thm
 use Rattle.link.proofs.lhodrupesh_build.Key.{name as #link·lhodrupesh-build}
 use Rattle.link.proofs.lhodrupesh_build as lhodrupesh-build
 use Rattle.link.proofs.lhodrupesh_build.Statement as stated
@@ -55,7 +55,7 @@ module _ {M : Type 1} (𝓤 : URA M) (H : Heap 𝓤) (A : Atoms 𝓤) (W : Given
   abbrev y : walkOf 𝓤 H A lhodrupesh-build.ended stayed (lhodrupesh-build.clauses 𝓤 H A mem run) .Ghost
   y = (((κ₀, (κ₁, (κ₂, (κ₃, (κ₄, (κ₅, tt)))))), (q₀, (q₁, (q₂, (q₃, (q₄, (q₅, tt)))))), tt, (rows, (names, (parcels, (labels, (jumps, (loops, tt)))))), (slice rows ∷ [], (slice names ∷ [], (slice parcels ∷ [], (slice labels ∷ [], (slice jumps ∷ [], (slice loops ∷ [], tt))))))), tt)
 
-  walk : (C : Calls 𝓤 H) (Λ : Loops 𝓤 H) → FmC 𝓤 H (W .laws) C → Triple 𝓤 (C #build·build) (ContractOf 𝓤 H A build.ended (build.clauses 𝓤 H A mem run)) → Triple 𝓤 (C #link·answered) (ContractOf 𝓤 H A answered.ended (answered.clauses 𝓤 H A mem run)) → Room u32 (length (rows .now)) → Room u8 (length (names .now)) → Room u16 (length (parcels .now)) → Room u32 (length (labels .now)) → Room u32 (length (jumps .now)) → Room loop.the-row (length (loops .now)) → WalkAt 𝓤 H A lhodrupesh-build.ended (lhodrupesh-build.clauses 𝓤 H A mem run) stayed code.function C Λ y
+  walk : (C : Calls 𝓤 H) (Λ : Loops 𝓤 H) → FmC 𝓤 H (W .laws) C → Triple 𝓤 (C #build·build) (ContractOf 𝓤 H A build.ended (build.clauses 𝓤 H A mem run)) → Triple 𝓤 (C #refusals·answered) (ContractOf 𝓤 H A in-numbers.ended (in-numbers.clauses 𝓤 H A mem run)) → Room u32 (length (rows .now)) → Room u8 (length (names .now)) → Room u16 (length (parcels .now)) → Room u32 (length (labels .now)) → Room u32 (length (jumps .now)) → Room loop.the-row (length (loops .now)) → WalkAt 𝓤 H A lhodrupesh-build.ended (lhodrupesh-build.clauses 𝓤 H A mem run) stayed code.function C Λ y
   walk C Λ fm known₁ known₂ room-rows room-names room-parcels room-labels room-jumps room-loops =
       starts W lhodrupesh-build.ended (lhodrupesh-build.clauses 𝓤 H A mem run) stayed code.function C Λ y ∵
       alloc1 ! (λ l₀. alloc1 ! (λ l₁. alloc1 ! (λ l₂. alloc1 ! (λ l₃. alloc1 ! (λ l₄. alloc1 ! (λ l₅. alloc1 ! (λ l₆. alloc1 ! (λ l₇. alloc1 ! (λ l₈. alloc1 ! (λ l₉. alloc1 ! (λ l₁₀. alloc1 ! (λ l₁₁. alloc1 ! (λ l₁₂. alloc1 ! (λ l₁₃. alloc1 ! (λ l₁₄. alloc1 ! (λ l₁₅. alloc0 ! $ params1 ! $
@@ -67,12 +67,12 @@ module _ {M : Type 1} (𝓤 : URA M) (H : Heap 𝓤) (A : Atoms 𝓤) (W : Given
       -- `build`
       move ! (32 ∷ 33 ∷ 34 ∷ 35 ∷ 36 ∷ 37 ∷ 38 ∷ 39 ∷ 40 ∷ 41 ∷ 42 ∷ 43 ∷ []) $
       calls W ! build.ended (build.clauses 𝓤 H A mem run) (((κ₀, (κ₁, (κ₂, (κ₃, (κ₄, (κ₅, tt)))))), (q₀, (q₁, (q₂, (q₃, (q₄, (q₅, tt)))))), tt, (rows, (names, (parcels, (labels, (jumps, (loops, tt)))))), (slice rows ∷ [], (slice names ∷ [], (slice parcels ∷ [], (slice labels ∷ [], (slice jumps ∷ [], (slice loops ∷ [], tt))))))), tt) answer-value
-      (λ r ws. Left (buildOf (rows .now) (names .now) (parcels .now) (labels .now) (jumps .now) (loops .now)) r (ws .1 .1 .0) (ws .1 .1 .1 .0) (ws .1 .1 .1 .1 .0) (ws .1 .1 .1 .1 .1 .0)) (λ r ws. id⊢ 𝓤 _) fm known₁ (id⊢ 𝓤 _) (and-then ! (whole-of ! 29 refl) (and-then ! (whole-of ! 27 refl) (and-then ! (whole-of ! 13 refl) (and-then ! (whole-of ! 9 refl) (and-then ! (whole-of ! 5 refl) (and-then ! (whole-of ! 1 refl) (no-more !))))))) (λ r₁ ws₁ is₁ e₁.
+      (λ r ws. Builds (rows .now) (names .now) (lentOf (parcels .now) (labels .now) (jumps .now) (loops .now)) (answered r) (lentOf (ws .1 .1 .0) (ws .1 .1 .1 .0) (ws .1 .1 .1 .1 .0) (ws .1 .1 .1 .1 .1 .0))) (λ r ws. id⊢ 𝓤 _) fm known₁ (id⊢ 𝓤 _) (and-then ! (whole-of ! 29 refl) (and-then ! (whole-of ! 27 refl) (and-then ! (whole-of ! 13 refl) (and-then ! (whole-of ! 9 refl) (and-then ! (whole-of ! 5 refl) (and-then ! (whole-of ! 1 refl) (no-more !))))))) (λ r₁ ws₁ is₁ e₁.
       lands-in ! 28 refl (fits W answer-value r₁ is₁ .0) $ move ! (9 ∷ []) $ gave ! u16 (parcels .name) (parcels .now) (ws₁ .1 .1 .0) (λ len₁-parcels. move ! (9 ∷ []) $ gave ! u32 (labels .name) (labels .now) (ws₁ .1 .1 .1 .0) (λ len₁-labels.
       move ! (9 ∷ []) $ gave ! u32 (jumps .name) (jumps .now) (ws₁ .1 .1 .1 .1 .0) (λ len₁-jumps. move ! (9 ∷ []) $ gave ! loop.the-row (loops .name) (loops .now) (ws₁ .1 .1 .1 .1 .1 .0) (λ len₁-loops.
       -- `answered`
-      made ! answer-value r₁ is₁ $ calls W ! answered.ended (answered.clauses 𝓤 H A mem run) ((tt, tt, tt, (r₁, tt), (answer-value .val r₁ ∷ [], tt)), tt) told-value
-      (λ r ws. r ≡ answeredAs r₁) (λ r ws. id⊢ 𝓤 _) fm known₂ (id⊢ 𝓤 _) (and-then ! (whole-of ! 29 refl) (no-more !)) (λ r₂ ws₂ is₂ e₂. lands-in ! 43 refl (fits W told-value r₂ is₂ .0) $ returns ! (look ! 43 refl) $
+      made ! answer-value r₁ is₁ $ calls W ! in-numbers.ended (in-numbers.clauses 𝓤 H A mem run) ((tt, tt, tt, (r₁, tt), (answer-value .val r₁ ∷ [], tt)), tt) told-value
+      (λ r ws. r ≡ answered r₁) (λ r ws. id⊢ 𝓤 _) fm known₂ (id⊢ 𝓤 _) (and-then ! (whole-of ! 29 refl) (no-more !)) (λ r₂ ws₂ is₂ e₂. lands-in ! 43 refl (fits W told-value r₂ is₂ .0) $ returns ! (look ! 43 refl) $
       frees-at ! 43 refl refl $ frees-at ! 41 refl refl $ frees-at ! 39 refl refl $ frees-at ! 37 refl refl $ frees-at ! 35 refl refl $ frees-at ! 33 refl refl $ frees-at ! 31 refl refl $ frees-at ! 29 refl refl $ frees-at ! 27 refl refl $ frees-at ! 25 refl refl $ frees-at ! 23 refl refl $ frees-at ! 21 refl refl $ frees-at ! 19 refl refl $ frees-at ! 17 refl refl $ frees-at ! 15 refl refl $ frees-at ! 13 refl refl $ free0 ! $
       nothing ! $ nothing ! $ keep ! (7 ∷ 8 ∷ 9 ∷ 10 ∷ 11 ∷ 12 ∷ 3 ∷ 4 ∷ 5 ∷ 6 ∷ 1 ∷ 0 ∷ []) $
       finishes W ! lhodrupesh-build.ended (lhodrupesh-build.clauses 𝓤 H A mem run) stayed y told-value r₂ (tt, (tt, ((ws₁ .1 .1 .0), ((ws₁ .1 .1 .1 .0), ((ws₁ .1 .1 .1 .1 .0), ((ws₁ .1 .1 .1 .1 .1 .0), tt)))))) is₂ (tt, (tt, (len₁-parcels, (len₁-labels, (len₁-jumps, (len₁-loops, tt)))))) (factI 𝓤 _ (emp 𝓤) (told-is e₁ e₂))))))))))))))))))))))))
@@ -86,5 +86,5 @@ lhodrupesh-build-spec 𝓤 H 𝓜 𝓖 𝓡 =
     (λ κs. (slice-vals, (slice-vals, (slice-vals, (slice-vals, (slice-vals, (slice-vals, tt))))))) (λ κs. (shr-slice-tells (named 0) (κs .0) u32, (shr-slice-tells (named 1) (κs .1 .0) u8, (mut-slice-tells (named 2) (κs .1 .1 .0) u16, (mut-slice-tells (named 3) (κs .1 .1 .1 .0) u32, (mut-slice-tells (named 4) (κs .1 .1 .1 .1 .0) u32, (mut-slice-tells (named 5) (κs .1 .1 .1 .1 .1 .0) loop.the-row, tt)))))))
     (λ fm κs qs bounds a _ are. via 𝓤 _ (fst∗ 𝓤 _ (emp 𝓤)) (walk 𝓤 H (𝓖 .A) W (𝓜 .mem) (𝓡 .run) (κs .0) (κs .1 .0) (κs .1 .1 .0) (κs .1 .1 .1 .0) (κs .1 .1 .1 .1 .0) (κs .1 .1 .1 .1 .1 .0) (qs .0) (qs .1 .0) (qs .1 .1 .0) (qs .1 .1 .1 .0) (qs .1 .1 .1 .1 .0) (qs .1 .1 .1 .1 .1 .0) (a .0) (a .1 .0) (a .1 .1 .0) (a .1 .1 .1 .0) (a .1 .1 .1 .1 .0) (a .1 .1 .1 .1 .1 .0) _ _ fm
     (cited 𝓤 H (ContractOf 𝓤 H (𝓖 .A) build.ended (build.clauses 𝓤 H (𝓖 .A) (𝓜 .mem) (𝓡 .run))) 𝓜 𝓡 code.env #build·build build-def.routine code.calls-build·build (build-thm.met 𝓤 H 𝓜 𝓖 𝓡))
-    (cited 𝓤 H (ContractOf 𝓤 H (𝓖 .A) answered.ended (answered.clauses 𝓤 H (𝓖 .A) (𝓜 .mem) (𝓡 .run))) 𝓜 𝓡 code.env #link·answered answered-def.routine code.calls-link·answered (answered-thm.met 𝓤 H 𝓜 𝓖 𝓡))
+    (cited 𝓤 H (ContractOf 𝓤 H (𝓖 .A) in-numbers.ended (in-numbers.clauses 𝓤 H (𝓖 .A) (𝓜 .mem) (𝓡 .run))) 𝓜 𝓡 code.env #refusals·answered in-numbers-def.routine code.calls-refusals·answered (in-numbers-thm.met 𝓤 H 𝓜 𝓖 𝓡))
     (are .0 .0 .1) (are .1 .0 .0 .1) (are .1 .1 .0 .0 .1) (are .1 .1 .1 .0 .0 .1) (are .1 .1 .1 .1 .0 .0 .1) (are .1 .1 .1 .1 .1 .0 .0 .1)))

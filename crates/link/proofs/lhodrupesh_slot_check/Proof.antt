@@ -1,6 +1,5 @@
 -- The call's own promise, in numbers.
-use mathlib.Core.Path.{ap, _∙_}
-use Rattle.link.specs.Told.{checkedAs}
+use mathlib.Core.Path.{_∙_}
 use borrow.Author.Needs.{needs}
 use Rattle.link.proofs.lhodrupesh_slot_check.Statement.{statement}
 use Rattle.link.proofs.lhodrupesh_slot_check.Tie as tie
@@ -12,7 +11,7 @@ checked-requires : tie.Need-checked-requires
 checked-requires c κs = search needs
 
 returns : tie.Need-returns
-returns c = c .checked .ensures ∙ ap checkedAs (c .before .slot-check .ensures)
+returns c = c .checked .ensures ∙ c .before .slot-check .ensures
 
 pub lhodrupesh-slot-check-spec : {M : Type 1} → statement M
 lhodrupesh-slot-check-spec = tie.close (tie.spec slot-check-requires checked-requires returns)

@@ -2,7 +2,7 @@
 use mathlib.Core.Path.{refl}
 use borrow.Author.Tests.{eq-eqb, ne-eqb}
 use Rattle.reader.specs.Steps.{nameAt}
-use Rattle.reader.proofs.Picks.{yes, no}
+use Rattle.reader.proofs.Conds.{yes, no}
 use Rattle.reader.proofs.name_at.Statement.{statement}
 use Rattle.reader.proofs.name_at.Tie as tie
 

@@ -1,5 +1,5 @@
--- The loop goes over the six places, and the output keeps its length.
-use Prim.Native.Nat.{_≤_, _-_}
+-- The loop goes over the six places, five bytes each at most, and the output keeps its length.
+use Prim.Native.Nat.{_≤_, _+_, _-_, _*_}
 use mathlib.Core.Path.{_≡_}
 use lib.ListN.{length}
 use borrow.Author.Needs.{needs}
@@ -7,7 +7,7 @@ use Rattle.replay.proofs.put_parcels.Statement.{statement}
 use Rattle.replay.proofs.put_parcels.Tie as tie
 
 abbrev Inv-loop : tie.InvT-loop
-Inv-loop out₀ at count places next₀ i₀ out next i = (i ≤ 6) × (length out ≡ length out₀)
+Inv-loop out₀ at count places next₀ i₀ out next i = (i ≤ 6) × (length out ≡ length out₀) × (next ≤ at + 5 * i)
 
 abbrev μ-loop : tie.MeasureT-loop
 μ-loop out₀ at count places next₀ i₀ out next i = 6 - i

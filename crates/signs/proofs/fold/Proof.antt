@@ -8,24 +8,23 @@ use lib.Signed.{ltZ}
 use mir.Syntax.{w64}
 use mir.Val.{toZ, ofZ}
 use mir.Facts.{toZ-ofZ, toZ-pos, sfits-lit}
-use Rattle.signs.specs.Signs.{modulo}
-use Rattle.signs.proofs.Ints.{same-lt, sum-neg, kept, modulo-lt, sfits-pos, cast-pos}
+use Rattle.signs.proofs.Ints.{among, among-folded, same-lt, sum-neg, kept, among-lt, sfits-pos, cast-pos}
 use borrow.Author.Needs.{needs}
 use Rattle.signs.proofs.fold.Statement.{statement}
 use Rattle.signs.proofs.fold.Tie as tie
 
 -- the sum, where z is negative
-sum : (c : tie.Then1) → toZ w64 (ofZ w64 (c .before .args .z)) +ℤ toZ w64 (c .before .args .size) ≡ pos (modulo (c .before .args .size) (c .before .args .z))
+sum : (c : tie.Then1) → toZ w64 (ofZ w64 (c .before .args .z)) +ℤ toZ w64 (c .before .args .size) ≡ pos (among (c .before .args .size) (c .before .args .z))
 sum c =
     let z : ℤ = c .before .args .z in
     let t : ltZ z (pos 0) ≡ true = sym (same-lt (c .before .fits .z) (sfits-lit {z = pos 0} tt)) ∙ c .if1 .taken in
     ap₂ _+ℤ_ (toZ-ofZ (c .before .fits .z)) (toZ-pos w64 (omega arith)) ∙ sum-neg (c .before .args .size) z t (c .before .pre .0)
 
-small : (c : tie.Start) → modulo (c .args .size) (c .args .z) < 2 ^ 63
-small c = omega (arith, modulo-lt (c .args .size) (c .args .z) (c .pre .0))
+small : (c : tie.Start) → among (c .args .size) (c .args .z) < 2 ^ 63
+small c = omega (arith, among-lt (c .args .size) (c .args .z) (c .pre .0))
 
 -- z itself, where it is not
-same : (c : tie.Else1) → toZ w64 (ofZ w64 (c .before .args .z)) ≡ pos (modulo (c .before .args .size) (c .before .args .z))
+same : (c : tie.Else1) → toZ w64 (ofZ w64 (c .before .args .z)) ≡ pos (among (c .before .args .size) (c .before .args .z))
 same c =
     let t : ltZ (c .before .args .z) (pos 0) ≡ false = sym (same-lt (c .before .fits .z) (sfits-lit {z = pos 0} tt)) ∙ c .if1 .left in
     toZ-ofZ (c .before .fits .z) ∙ kept (c .before .args .size) (c .before .args .z) t
@@ -44,11 +43,13 @@ cast-result-3 c = cast-pos (same c) (small (c .before))
 
 returns : tie.Need-returns
 returns c =
-    let e : natAbs (toZ w64 (ofZ w64 (toZ w64 (ofZ w64 (c .before .args .z)) +ℤ toZ w64 (c .before .args .size)))) ≡ modulo (c .before .args .size) (c .before .args .z) = ap natAbs (toZ-ofZ (add-result c) ∙ sum c) in
-    (e, rw e (modulo-lt (c .before .args .size) (c .before .args .z) (c .before .pre .0)))
+    let e : natAbs (toZ w64 (ofZ w64 (toZ w64 (ofZ w64 (c .before .args .z)) +ℤ toZ w64 (c .before .args .size)))) ≡ among (c .before .args .size) (c .before .args .z) = ap natAbs (toZ-ofZ (add-result c) ∙ sum c) in
+    ((λ n p. e ∙ among-folded (c .before .args .size) n (c .before .args .z) p), rw e (among-lt (c .before .args .size) (c .before .args .z) (c .before .pre .0)))
 
 returns-2 : tie.Need-returns-2
-returns-2 c = (ap natAbs (same c), rw (ap natAbs (same c)) (modulo-lt (c .before .args .size) (c .before .args .z) (c .before .pre .0)))
+returns-2 c =
+    let e = ap natAbs (same c) in
+    ((λ n p. e ∙ among-folded (c .before .args .size) n (c .before .args .z) p), rw e (among-lt (c .before .args .size) (c .before .args .z) (c .before .pre .0)))
 
 pub fold-spec : {M : Type 1} → statement M
 fold-spec =

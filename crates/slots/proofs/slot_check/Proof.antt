@@ -1,14 +1,13 @@
 -- What is kept in mind after i rows is `Watching`'s.
-use mathlib.Core.Path.{sym, _∙_}
+use mathlib.Core.Path.{sym, ap, _∙_}
 use Prim.Native.Nat.{_-_}
-use denote.Ref.{now}
 use borrow.Author.Count.{below-none}
 use borrow.Author.Tests.{not-false}
 use borrow.Author.Needs.{needs}
+use Rattle.refusals.specs.Numbers.{checked}
 use Rattle.rows.proofs.Limit.{rows-few}
-use Rattle.entries.proofs.Back.{back}
 use Rattle.places.specs.Items.{rowAt}
-use Rattle.slots.proofs.Delayed.{says}
+use Rattle.slots.proofs.Others.{is-read}
 use Rattle.slots.proofs.Watching.{Watching, watching-next, watching-stop, watching-end}
 use Rattle.slots.proofs.slot_check.Statement.{statement}
 use Rattle.slots.proofs.slot_check.Tie as tie
@@ -28,14 +27,14 @@ returns c = rw (← c .before .well-formed .ensures, c .if1 .taken)
 loop-holds : tie.Need-loop-holds Inv-loop μ-loop
 loop-holds c = record { few = rows-few _ (sym (c .before .well-formed .ensures) ∙ not-false _ (c .if1 .left)); within = search needs; good = below-none _; seen = below-none _ }
 
-entry-at-requires : tie.Need-entry-at-requires Inv-loop μ-loop
-entry-at-requires c κs = search needs
+coded-at-requires : tie.Need-coded-at-requires Inv-loop μ-loop
+coded-at-requires c κs = search needs
 
-enum-known-entry : tie.Need-enum-known-entry Inv-loop μ-loop
-enum-known-entry c = search needs
+enum-known-row : tie.Need-enum-known-row Inv-loop μ-loop
+enum-known-row c = search needs
 
 returns-2 : tie.Need-returns-2 Inv-loop μ-loop
-returns-2 c = rw (← c .before .before .before .before .before .before .before .well-formed .ensures, not-false (c .before .before .before .before .before .before .before .well-formed .result) (c .before .before .before .before .before .before .if1 .left), watching-stop _ _ (c .before .before .before .before .before .loop .inv) (c .before .before .before .before .loop-test .taken) {r = c .before .entry .given .0 .0} (back (rowAt (now (c .before .before .before .before .before .before .before .before .before .before .args .rows)) (now (c .before .before .before .before .before .before .before .before .before .before .args .names)) (c .before .before .before .before .before .loop .i)) (c .before .before .before .entry-at .ensures) (c .before .entry .given .1)))
+returns-2 c = let row = sym (c .before .before .before .coded-at .ensures) ∙ c .before .row .given .1 in rw (← c .before .before .before .before .before .before .before .well-formed .ensures, not-false (c .before .before .before .before .before .before .before .well-formed .result) (c .before .before .before .before .before .before .if1 .left), watching-stop _ _ (c .before .before .before .before .before .loop .inv) (c .before .before .before .before .loop-test .taken) row)
 
 cast-after : tie.Need-cast-after Inv-loop μ-loop
 cast-after c = search needs
@@ -50,13 +49,13 @@ loop-less : tie.Need-loop-less Inv-loop μ-loop
 loop-less c = search needs
 
 loop-again : tie.Need-loop-again Inv-loop μ-loop
-loop-again c = let s = says (rowAt (now (c .before .before .before .before .before .before .before .before .before .args .rows)) (now (c .before .before .before .before .before .before .before .before .before .args .names)) (c .before .before .before .before .loop .i)) (c .before .match .keys2) (c .before .before .entry-at .ensures) in rw (c .after .ensures (s .item) (s .has-entry)) (watching-next _ _ (c .before .before .before .before .loop .inv) (c .before .before .before .loop-test .taken) (s .is))
+loop-again c = let row = c .before .before .coded-at .ensures in rw (c .after .ensures, row) (watching-next _ _ (c .before .before .before .before .loop .inv) (c .before .before .before .loop-test .taken) (rw row at (is-read (c .before .before .coded-at .result) (c .before .match .keys2))))
 
 ending-requires : tie.Need-ending-requires Inv-loop μ-loop
 ending-requires c κs = search needs
 
 returns-3 : tie.Need-returns-3 Inv-loop μ-loop
-returns-3 c = let e = watching-end _ _ (c .before .before .loop .inv) (c .before .loop-test .left) in rw (← c .before .before .before .before .well-formed .ensures, not-false (c .before .before .before .before .well-formed .result) (c .before .before .before .if1 .left), e .0) (c .ending .ensures ∙ e .1)
+returns-3 c = let e = watching-end _ _ (c .before .before .loop .inv) (c .before .loop-test .left) in rw (← c .before .before .before .before .well-formed .ensures, not-false (c .before .before .before .before .well-formed .result) (c .before .before .before .if1 .left), e .0) (ap checked (c .ending .ensures ∙ e .1))
 
 pub slot-check-spec : {M : Type 1} → statement M
 slot-check-spec =
@@ -67,8 +66,8 @@ slot-check-spec =
     well-formed-requires
     returns
     loop-holds
-    entry-at-requires
-    enum-known-entry
+    coded-at-requires
+    enum-known-row
     returns-2
     cast-after
     after-requires

@@ -29,9 +29,9 @@ use denote.Signature.{plain}
 use denote.Exit.{yes}
 use denote.Steps.{nothing}
 use denote.Triple.Walked.{Stays, stay-dropped, stay-slice, walkOf, goes-dropped, goes-slice}
-use Rattle.writer.proofs.Walk.{WalkAt, whole-of, field-of, stores, frees-at, by-walk}
-use Rattle.writer.proofs.Parts.{number-value, no-value, fits, placed, made, starts, finishes}
-use Rattle.writer.proofs.Lent.{slice}
+use Rattle.walks.proofs.Walk.{WalkAt, whole-of, field-of, stores, frees-at, by-walk}
+use Rattle.walks.proofs.Parts.{number-value, no-value, fits, placed, made, starts, finishes}
+use Rattle.walks.proofs.Lent.{slice}
 use Rattle.places.specs.declared.OpenLoop.{OpenLoop}
 use Rattle.places.proofs.OpenLoop as loop
 use Rattle.taking.proofs.Values.{loop-value}

@@ -30,11 +30,12 @@ use denote.Steps.{nothing}
 use denote.Triple.Statement.{Triple}
 use denote.Triple.Table.{cited}
 use denote.Triple.Walked.{needs, Stays, stay-dropped, stay-slice, walkOf, goes-dropped, goes-slice}
-use Rattle.writer.proofs.Walk.{WalkAt, whole-of, stores, lands-in, frees-at, ContractOf, by-walk}
-use Rattle.writer.proofs.Parts.{truth, fits, placed, tyAt, second, held, failed, made, starts, calls, calls-last, finishes}
-use Rattle.writer.proofs.Lent.{slice, under, ref-of, slice-of, copied, lends, back}
+use Rattle.walks.proofs.Walk.{WalkAt, whole-of, stores, lands-in, frees-at, ContractOf, by-walk}
+use Rattle.walks.proofs.Parts.{truth, fits, placed, tyAt, second, held, failed, made, starts, calls, calls-last, finishes}
+use Rattle.walks.proofs.Lent.{slice, under, ref-of, slice-of, copied, lends, back}
 use Rattle.places.specs.declared.OpenLoop.{OpenLoop}
 use Rattle.places.specs.declared.Rooms.{Rooms}
+use Rattle.places.specs.Left.{Lent, lentOf}
 use Rattle.places.proofs.OpenLoop as loop
 use Rattle.places.proofs.Rooms as rooms′
 use Rattle.machine.specs.Machine.{Rooming}
@@ -43,10 +44,10 @@ use Rattle.taking.specs.Taking.{startOf, moreOf, Turnt}
 use Rattle.taking.proofs.Taking as taking
 use Rattle.taking.proofs.Values.{rooms-value, taking-value}
 use Rattle.taking.proofs.Turning.{Along, left, along-start, along-ready, along-next, left-less, along-end}
-use Rattle.taking.proofs.start as start
-use Rattle.taking.proofs.start.Symbol as start-def
-use Rattle.taking.proofs.start.Symbol.{name as #taking·start}
-use Rattle.taking.proofs.start.Met as start-thm
+use Rattle.taking.proofs.begun as begun
+use Rattle.taking.proofs.begun.Symbol as begun-def
+use Rattle.taking.proofs.begun.Symbol.{name as #taking·begun}
+use Rattle.taking.proofs.begun.Met as begun-thm
 use Rattle.taking.proofs.more as more
 use Rattle.taking.proofs.more.Symbol as more-def
 use Rattle.taking.proofs.more.Symbol.{name as #taking·more}
@@ -65,25 +66,25 @@ abbrev stayed : Stays (take-rows.ended .signature .params) (take-rows.ended .kep
 stayed = (stay-dropped _ _, (stay-dropped _ _, (stay-dropped _ _, (stay-slice (2 ∷ []) tt (plain (λ _. u16)), (stay-slice (3 ∷ []) tt (plain (λ _. u32)), (stay-slice (4 ∷ []) tt (plain (λ _. u32)), (stay-slice (5 ∷ []) tt (plain (λ _. loop.the-row)), tt)))))))
 
 -- where the loop stands
-record At (rs ns : List ℕ) (rooms : Rooms) (p l j : List ℕ) (k : List OpenLoop) : Type 0 where
+record At (rs ns : List ℕ) (rooms : Rooms) (lent : Lent) : Type 0 where
   t : Taking
   parcels : List ℕ
   labels : List ℕ
   jumps : List ℕ
   loops : List OpenLoop
   is-t : Is taking.the-row t (taking-value .val t ∷ [])
-  along : Along rs ns rooms p l j k t parcels labels jumps loops
-  len-parcels : length parcels ≡ length p
-  len-labels : length labels ≡ length l
-  len-jumps : length jumps ≡ length j
-  len-loops : length loops ≡ length k
+  along : Along rs ns rooms lent t (lentOf parcels labels jumps loops)
+  len-parcels : length parcels ≡ length (lent .parcels)
+  len-labels : length labels ≡ length (lent .labels)
+  len-jumps : length jumps ≡ length (lent .jumps)
+  len-loops : length loops ≡ length (lent .loops)
 
 module _ {M : Type 1} (𝓤 : URA M) (H : Heap 𝓤) (A : Atoms 𝓤) (W : Given 𝓤 H A) (mem : Memory → SProp 𝓤) (run : Routine → Fun 𝓤) (κ₀ κ₁ κ₂ κ₃ κ₄ κ₅ : Lft) (q₀ q₁ q₂ q₃ q₄ q₅ : Share) (rows names : RefT (List ℕ)) (rooms : Rooms) (parcels labels jumps : RefT (List ℕ)) (loops : RefT (List OpenLoop)) where
   abbrev y : walkOf 𝓤 H A take-rows.ended stayed (take-rows.clauses 𝓤 H A mem run) .Ghost
   y = (((κ₀, (κ₁, (κ₂, (κ₃, (κ₄, (κ₅, tt)))))), (q₀, (q₁, (q₂, (q₃, (q₄, (q₅, tt)))))), tt, (rows, (names, (rooms, (parcels, (labels, (jumps, (loops, tt))))))), (slice rows ∷ [], (slice names ∷ [], (rooms-value .val rooms ∷ [], (slice parcels ∷ [], (slice labels ∷ [], (slice jumps ∷ [], (slice loops ∷ [], tt)))))))), tt)
 
   abbrev X : Type 0
-  X = At (rows .now) (names .now) rooms (parcels .now) (labels .now) (jumps .now) (loops .now)
+  X = At (rows .now) (names .now) rooms (lentOf (parcels .now) (labels .now) (jumps .now) (loops .now))
 
   abbrev _≺_ : X → X → Type 0
   _≺_ x z = left (rows .now) (x .t) < left (rows .now) (z .t)
@@ -94,7 +95,7 @@ module _ {M : Type 1} (𝓤 : URA M) (H : Heap 𝓤) (A : Atoms 𝓤) (W : Given
   abbrev Post′ : Val → SProp 𝓤
   Post′ = walkOf 𝓤 H A take-rows.ended stayed (take-rows.clauses 𝓤 H A mem run) .post y
 
-  module _ (𝓣 : Tables 𝓤 H) (known₁ : Triple 𝓤 (𝓣 .C #taking·start) (ContractOf 𝓤 H A start.ended (start.clauses 𝓤 H A mem run))) (known₂ : Triple 𝓤 (𝓣 .C #taking·more) (ContractOf 𝓤 H A more.ended (more.clauses 𝓤 H A mem run))) (known₃ : Triple 𝓤 (𝓣 .C #taking·turn) (ContractOf 𝓤 H A turn.ended (turn.clauses 𝓤 H A mem run))) (room-rows : Room u32 (length (rows .now))) (room-names : Room u8 (length (names .now))) (is-rooms : Is rooms′.the-row rooms (rooms-value .val rooms ∷ [])) (room-parcels : Room u16 (length (parcels .now))) (room-labels : Room u32 (length (labels .now))) (room-jumps : Room u32 (length (jumps .now))) (room-loops : Room loop.the-row (length (loops .now))) (asked : Rooming rooms (length (parcels .now)) (length (labels .now)) (length (jumps .now)) (length (loops .now))) where
+  module _ (𝓣 : Tables 𝓤 H) (known₁ : Triple 𝓤 (𝓣 .C #taking·begun) (ContractOf 𝓤 H A begun.ended (begun.clauses 𝓤 H A mem run))) (known₂ : Triple 𝓤 (𝓣 .C #taking·more) (ContractOf 𝓤 H A more.ended (more.clauses 𝓤 H A mem run))) (known₃ : Triple 𝓤 (𝓣 .C #taking·turn) (ContractOf 𝓤 H A turn.ended (turn.clauses 𝓤 H A mem run))) (room-rows : Room u32 (length (rows .now))) (room-names : Room u8 (length (names .now))) (is-rooms : Is rooms′.the-row rooms (rooms-value .val rooms ∷ [])) (room-parcels : Room u16 (length (parcels .now))) (room-labels : Room u32 (length (labels .now))) (room-jumps : Room u32 (length (jumps .now))) (room-loops : Room loop.the-row (length (loops .now))) (asked : Rooming rooms (length (parcels .now)) (length (labels .now)) (length (jumps .now)) (length (loops .now))) where
     abbrev C : Calls 𝓤 H
     C = 𝓣 .C
 
@@ -132,7 +133,7 @@ module _ {M : Type 1} (𝓤 : URA M) (H : Heap 𝓤) (A : Atoms 𝓤) (W : Given
           move ! (15 ∷ 17 ∷ []) $ lends ! tt u32 (named 4) (named 4) κ₄ q₄ jumps (x .jumps) (x .len-jumps) (λ ν₂-jumps δ₂-jumps. move ! (18 ∷ 19 ∷ []) $
           lends ! tt loop.the-row (named 5) (named 5) κ₅ q₅ loops (x .loops) (x .len-loops) (λ ν₂-loops δ₂-loops. made ! taking-value (x .t) (x .is-t) $ move ! (1 ∷ 4 ∷ 7 ∷ 10 ∷ 21 ∷ 18 ∷ 0 ∷ 2 ∷ 5 ∷ 8 ∷ 11 ∷ 13 ∷ 14 ∷ 16 ∷ []) $
           calls-last W ! turn.ended (turn.clauses 𝓤 H A mem run) (((κ₀, (κ₁, (ν₂-parcels ∷ [], (ν₂-labels ∷ [], (ν₂-jumps ∷ [], (ν₂-loops ∷ [], tt)))))), (q₀, (q₁, (fullShare, (fullShare, (fullShare, (fullShare, tt)))))), tt, (rows, (names, (rooms, (under parcels δ₂-parcels (x .parcels), (under labels δ₂-labels (x .labels), (under jumps δ₂-jumps (x .jumps), (under loops δ₂-loops (x .loops), ((x .t), tt)))))))), (slice rows ∷ [], (slice names ∷ [], (rooms-value .val rooms ∷ [], (slice parcels ∷ [], (slice labels ∷ [], (slice jumps ∷ [], (slice loops ∷ [], (taking-value .val (x .t) ∷ [], tt))))))))), tt) taking-value
-          (λ r ws. Turnt (rows .now) (names .now) rooms (x .t) (x .parcels) (x .labels) (x .jumps) (x .loops) r (ws .1 .1 .1 .0) (ws .1 .1 .1 .1 .0) (ws .1 .1 .1 .1 .1 .0) (ws .1 .1 .1 .1 .1 .1 .0)) (λ r ws. id⊢ 𝓤 _) fm known₃ (factI 𝓤 _ (emp 𝓤) (along-ready (x .along) more′)) (and-then ! (whole-of ! 41 refl) (and-then ! (whole-of ! 39 refl) (and-then ! (whole-of ! 37 refl) (and-then ! (whole-of ! 21 refl) (and-then ! (whole-of ! 17 refl) (and-then ! (whole-of ! 13 refl) (and-then ! (whole-of ! 9 refl) (and-then ! (whole-of ! 27 refl) (no-more !))))))))) (λ r₂ ws₂ is₂ e₂.
+          (λ r ws. Turnt (rows .now) (names .now) rooms (x .t) (lentOf (x .parcels) (x .labels) (x .jumps) (x .loops)) r (lentOf (ws .1 .1 .1 .0) (ws .1 .1 .1 .1 .0) (ws .1 .1 .1 .1 .1 .0) (ws .1 .1 .1 .1 .1 .1 .0))) (λ r ws. id⊢ 𝓤 _) fm known₃ (factI 𝓤 _ (emp 𝓤) (along-ready (x .along) more′)) (and-then ! (whole-of ! 41 refl) (and-then ! (whole-of ! 39 refl) (and-then ! (whole-of ! 37 refl) (and-then ! (whole-of ! 21 refl) (and-then ! (whole-of ! 17 refl) (and-then ! (whole-of ! 13 refl) (and-then ! (whole-of ! 9 refl) (and-then ! (whole-of ! 27 refl) (no-more !))))))))) (λ r₂ ws₂ is₂ e₂.
           move ! (3 ∷ 17 ∷ 10 ∷ []) $ back ! tt u16 (named 2) (named 2) κ₂ q₂ parcels (x .parcels) (x .len-parcels) room-parcels ν₂-parcels δ₂-parcels (ws₂ .1 .1 .1 .0) (λ len₂-parcels. move ! (4 ∷ 16 ∷ 10 ∷ []) $
           back ! tt u32 (named 3) (named 3) κ₃ q₃ labels (x .labels) (x .len-labels) room-labels ν₂-labels δ₂-labels (ws₂ .1 .1 .1 .1 .0) (λ len₂-labels. move ! (5 ∷ 15 ∷ 10 ∷ []) $
           back ! tt u32 (named 4) (named 4) κ₄ q₄ jumps (x .jumps) (x .len-jumps) room-jumps ν₂-jumps δ₂-jumps (ws₂ .1 .1 .1 .1 .1 .0) (λ len₂-jumps. move ! (6 ∷ 14 ∷ 10 ∷ []) $
@@ -150,11 +151,11 @@ module _ {M : Type 1} (𝓤 : URA M) (H : Heap 𝓤) (A : Atoms 𝓤) (W : Given
         starts W take-rows.ended (take-rows.clauses 𝓤 H A mem run) stayed code.function C Λ y ∵
         alloc1 ! (λ l₀. alloc1 ! (λ l₁. alloc1 ! (λ l₂. alloc1 ! (λ l₃. alloc1 ! (λ l₄. alloc1 ! (λ l₅. alloc1 ! (λ l₆. alloc1 ! (λ l₇. alloc1 ! (λ l₈. alloc1 ! (λ l₉. alloc1 ! (λ l₁₀. alloc1 ! (λ l₁₁. alloc1 ! (λ l₁₂. alloc1 ! (λ l₁₃. alloc1 ! (λ l₁₄. alloc1 ! (λ l₁₅. alloc1 ! (λ l₁₆. alloc1 ! (λ l₁₇. alloc0 ! $ params1 ! $
         pass1 ! (init ! 32 refl (tt, (tt, (record { fits = room-rows .0 }, tt)))) $ pass1 ! (init ! 30 refl (tt, (tt, (record { fits = room-names .0 }, tt)))) $ pass1 ! (init ! 28 refl (fits W rooms-value rooms is-rooms .0)) $ pass1 ! (init ! 26 refl (tt, (tt, (record { fits = room-parcels .0 }, tt)))) $ pass1 ! (init ! 24 refl (tt, (tt, (record { fits = room-labels .0 }, tt)))) $ pass1 ! (init ! 22 refl (tt, (tt, (record { fits = room-jumps .0 }, tt)))) $ pass1 ! (init ! 20 refl (tt, (tt, (record { fits = room-loops .0 }, tt)))) $ pass0 ! $
-        -- `start`
-        move ! (48 ∷ []) $ copied ! u32 (named 0) κ₀ rows $ move ! (43 ∷ 0 ∷ []) $ calls W ! start.ended (start.clauses 𝓤 H A mem run) (((κ₀, tt), (q₀, tt), tt, (rows, tt), (slice rows ∷ [], tt)), tt) taking-value
+        -- `begun`
+        move ! (48 ∷ []) $ copied ! u32 (named 0) κ₀ rows $ move ! (43 ∷ 0 ∷ []) $ calls W ! begun.ended (begun.clauses 𝓤 H A mem run) (((κ₀, tt), (q₀, tt), tt, (rows, tt), (slice rows ∷ [], tt)), tt) taking-value
         (λ r ws. r ≡ startOf (rows .now)) (λ r ws. id⊢ 𝓤 _) fm known₁ (id⊢ 𝓤 _) (and-then ! (whole-of ! 34 refl) (no-more !)) (λ r₁ ws₁ is₁ e₁. lands-in ! 21 refl (fits W taking-value r₁ is₁ .0) $
         keep ! (0 ∷ 43 ∷ 42 ∷ 41 ∷ 40 ∷ 39 ∷ 2 ∷ 49 ∷ 47 ∷ 46 ∷ 45 ∷ 44 ∷ 3 ∷ 4 ∷ 5 ∷ 6 ∷ 7 ∷ 8 ∷ 9 ∷ 10 ∷ 11 ∷ 12 ∷ 13 ∷ 14 ∷ 15 ∷ 16 ∷ 17 ∷ 18 ∷ 19 ∷ 20 ∷ 21 ∷ 22 ∷ 23 ∷ 24 ∷ 25 ∷ 26 ∷ 27 ∷ 28 ∷ 29 ∷ 30 ∷ 31 ∷ 32 ∷ 33 ∷ 34 ∷ 35 ∷ 36 ∷ 37 ∷ 38 ∷ []) $
-        first ! $ blocks ! $ repeats ! 𝓣 _≺_ ≺-wf (Inv l₀ l₁ l₂ l₃ l₄ l₅ l₆ l₇ l₈ l₉ l₁₀ l₁₁ l₁₂ l₁₃ l₁₄ l₁₅ l₁₆ l₁₇) (turns l₀ l₁ l₂ l₃ l₄ l₅ l₆ l₇ l₈ l₉ l₁₀ l₁₁ l₁₂ l₁₃ l₁₄ l₁₅ l₁₆ l₁₇) (record { t = r₁; parcels = parcels .now; labels = labels .now; jumps = jumps .now; loops = loops .now; is-t = is₁; along = subst (λ (t : Taking). Along (rows .now) (names .now) rooms (parcels .now) (labels .now) (jumps .now) (loops .now) t (parcels .now) (labels .now) (jumps .now) (loops .now)) (sym e₁) (along-start asked); len-parcels = refl; len-labels = refl; len-jumps = refl; len-loops = refl }))))))))))))))))))))
+        first ! $ blocks ! $ repeats ! 𝓣 _≺_ ≺-wf (Inv l₀ l₁ l₂ l₃ l₄ l₅ l₆ l₇ l₈ l₉ l₁₀ l₁₁ l₁₂ l₁₃ l₁₄ l₁₅ l₁₆ l₁₇) (turns l₀ l₁ l₂ l₃ l₄ l₅ l₆ l₇ l₈ l₉ l₁₀ l₁₁ l₁₂ l₁₃ l₁₄ l₁₅ l₁₆ l₁₇) (record { t = r₁; parcels = parcels .now; labels = labels .now; jumps = jumps .now; loops = loops .now; is-t = is₁; along = subst (λ (t : Taking). Along (rows .now) (names .now) rooms (lentOf (parcels .now) (labels .now) (jumps .now) (loops .now)) t (lentOf (parcels .now) (labels .now) (jumps .now) (loops .now))) (sym e₁) (along-start asked); len-parcels = refl; len-labels = refl; len-jumps = refl; len-loops = refl }))))))))))))))))))))
 
 pub take-rows-spec : {M : Type 1} → stated.statement M
 unfolding code.routine tablesOf
@@ -164,7 +165,7 @@ take-rows-spec 𝓤 H 𝓜 𝓖 𝓡 =
     (goes-dropped 𝓤 H (𝓖 .A) W 6 (shrSliceOf (0 ∷ []) tt (plain (λ _. u32))) yes (λ κs x f. refl), (goes-dropped 𝓤 H (𝓖 .A) W 6 (shrSliceOf (1 ∷ []) tt (plain (λ _. u8))) yes (λ κs x f. refl), (goes-dropped 𝓤 H (𝓖 .A) W 6 (plain (λ _. rooms′.the-row)) yes (λ κs x f. refl), (goes-slice 𝓤 H (𝓖 .A) W 6 2 tt (plain (λ _. u16)), (goes-slice 𝓤 H (𝓖 .A) W 6 3 tt (plain (λ _. u32)), (goes-slice 𝓤 H (𝓖 .A) W 6 4 tt (plain (λ _. u32)), (goes-slice 𝓤 H (𝓖 .A) W 6 5 tt (plain (λ _. loop.the-row)), tt)))))))
     (λ κs. (slice-vals, (slice-vals, ((λ x. rooms-value .val x ∷ []), (slice-vals, (slice-vals, (slice-vals, (slice-vals, tt)))))))) (λ κs. (shr-slice-tells (named 0) (κs .0) u32, (shr-slice-tells (named 1) (κs .1 .0) u8, (rooms-value .tells, (mut-slice-tells (named 2) (κs .1 .1 .0) u16, (mut-slice-tells (named 3) (κs .1 .1 .1 .0) u32, (mut-slice-tells (named 4) (κs .1 .1 .1 .1 .0) u32, (mut-slice-tells (named 5) (κs .1 .1 .1 .1 .1 .0) loop.the-row, tt))))))))
     (λ fm κs qs bounds a _ are. needs 𝓤 (Rooming (a .1 .1 .0) (length ((a .1 .1 .1 .0) .now)) (length ((a .1 .1 .1 .1 .0) .now)) (length ((a .1 .1 .1 .1 .1 .0) .now)) (length ((a .1 .1 .1 .1 .1 .1 .0) .now))) _ (λ asked. walk 𝓤 H (𝓖 .A) W (𝓜 .mem) (𝓡 .run) (κs .0) (κs .1 .0) (κs .1 .1 .0) (κs .1 .1 .1 .0) (κs .1 .1 .1 .1 .0) (κs .1 .1 .1 .1 .1 .0) (qs .0) (qs .1 .0) (qs .1 .1 .0) (qs .1 .1 .1 .0) (qs .1 .1 .1 .1 .0) (qs .1 .1 .1 .1 .1 .0) (a .0) (a .1 .0) (a .1 .1 .0) (a .1 .1 .1 .0) (a .1 .1 .1 .1 .0) (a .1 .1 .1 .1 .1 .0) (a .1 .1 .1 .1 .1 .1 .0) (tablesOf 𝓤 H 𝓜 (tables 𝓤 H 𝓜 𝓡 code.env))
-    (cited 𝓤 H (ContractOf 𝓤 H (𝓖 .A) start.ended (start.clauses 𝓤 H (𝓖 .A) (𝓜 .mem) (𝓡 .run))) 𝓜 𝓡 code.env #taking·start start-def.routine code.calls-taking·start (start-thm.met 𝓤 H 𝓜 𝓖 𝓡))
+    (cited 𝓤 H (ContractOf 𝓤 H (𝓖 .A) begun.ended (begun.clauses 𝓤 H (𝓖 .A) (𝓜 .mem) (𝓡 .run))) 𝓜 𝓡 code.env #taking·begun begun-def.routine code.calls-taking·begun (begun-thm.met 𝓤 H 𝓜 𝓖 𝓡))
     (cited 𝓤 H (ContractOf 𝓤 H (𝓖 .A) more.ended (more.clauses 𝓤 H (𝓖 .A) (𝓜 .mem) (𝓡 .run))) 𝓜 𝓡 code.env #taking·more more-def.routine code.calls-taking·more (more-thm.met 𝓤 H 𝓜 𝓖 𝓡))
     (cited 𝓤 H (ContractOf 𝓤 H (𝓖 .A) turn.ended (turn.clauses 𝓤 H (𝓖 .A) (𝓜 .mem) (𝓡 .run))) 𝓜 𝓡 code.env #taking·turn turn-def.routine code.calls-taking·turn (turn-thm.met 𝓤 H 𝓜 𝓖 𝓡))
     (are .0 .0 .1) (are .1 .0 .0 .1) (are .1 .1 .0) (are .1 .1 .1 .0 .0 .1) (are .1 .1 .1 .1 .0 .0 .1) (are .1 .1 .1 .1 .1 .0 .0 .1) (are .1 .1 .1 .1 .1 .1 .0 .0 .1) asked))

@@ -30,11 +30,11 @@ use denote.Exit.{yes}
 use denote.Steps.{nothing}
 use denote.Struct.Laws as LL
 use denote.Triple.Walked.{Stays, stay-dropped, walkOf, goes-dropped}
-use Rattle.writer.proofs.Walk.{WalkAt, whole-of, field-of, stores, frees-at, by-walk}
-use Rattle.writer.proofs.Parts.{number-value, fits, placed, starts, finishes}
-use Rattle.writer.proofs.Lent.{slice}
+use Rattle.walks.proofs.Walk.{WalkAt, whole-of, field-of, stores, frees-at, by-walk}
+use Rattle.walks.proofs.Parts.{number-value, fits, placed, starts, finishes}
+use Rattle.walks.proofs.Lent.{slice}
 use Rattle.places.specs.declared.OpenLoop.{OpenLoop}
-use Rattle.places.specs.Build.{zeroLoop}
+use Rattle.places.specs.Left.{zeroLoop}
 use Rattle.places.proofs.OpenLoop as loop
 use Rattle.places.proofs.OpenLoop.Laws as loop′
 use Rattle.taking.proofs.Values.{loop-value, zero-is}

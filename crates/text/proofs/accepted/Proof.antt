@@ -1,35 +1,28 @@
--- One text after the other, and all of it fits.
+-- As many parcels as the count says, or all.
+use mathlib.Core.Path.{sym}
+use native.Mathlib.Omega.{arith}
+use lib.Seq.{length-take-le}
 use borrow.Author.Needs.{needs}
-use Rattle.text.proofs.Lengths.{ok-fits}
-use Rattle.text.proofs.Putting.{puts-then, shows}
+use Rattle.text.proofs.Lengths.{take-least}
 use Rattle.text.proofs.accepted.Statement.{statement}
 use Rattle.text.proofs.accepted.Tie as tie
 
-slice-aggregate-put-head : tie.Need-slice-aggregate-put-head
-slice-aggregate-put-head c = search needs
+least-requires : tie.Need-least-requires
+least-requires c κs = search needs
 
-put-head-requires : tie.Need-put-head-requires
-put-head-requires c κs = search needs
+slice-aggregate-ok : tie.Need-slice-aggregate-ok
+slice-aggregate-ok c = sym (length-take-le _ _ (c .before .least .ensures .1))
 
-put-requires : tie.Need-put-requires
-put-requires c κs = search needs
-
-put-parcels-requires : tie.Need-put-parcels-requires
-put-parcels-requires c κs = search needs
+ok-requires : tie.Need-ok-requires
+ok-requires c κs = (rw (length-take-le _ _ (c .before .before .least .ensures .1)) (omega (arith, c .before .before .least .ensures .1, c .before .before .before .before .before .pre .0)), c .before .before .before .before .before .pre .1)
 
 same-length : tie.Need-same-length
 same-length c = search needs
 
 returns : tie.Need-returns
-returns c = shows (puts-then (puts-then (c .before .before .before .before .before .before .before .before .before .before .put-head .ensures .0) (c .before .before .before .before .before .before .put .ensures)) (c .before .before .put-parcels .ensures)) (ok-fits (c .before .before .before .before .before .before .before .before .before .before .before .before .before .before .before .args .count) (c .before .before .before .before .before .before .before .before .before .before .before .before .before .before .before .args .parcels .now) (c .before .before .before .before .before .before .before .before .before .before .before .before .before .before .before .pre .0))
+returns c = rw (c .before .before .before .before .before .least .ensures .0, take-least) at (c .before .before .ok .ensures)
 
 pub accepted-spec : {M : Type 1} → statement M
 accepted-spec =
     tie.close
-    (tie.spec
-    slice-aggregate-put-head
-    put-head-requires
-    put-requires
-    put-parcels-requires
-    same-length
-    returns)
+    (tie.spec least-requires slice-aggregate-ok ok-requires same-length returns)

@@ -33,10 +33,10 @@ use denote.Triple.Statement.{Triple}
 use denote.Triple.Table.{cited}
 use denote.Triple.Walked.{needs, Stays, walkOf}
 use Rattle.writer.specs.declared.Writer.{Writer}
-use Rattle.writer.proofs.Plain.{number-stay, number-goes, wordsVal, words-vals, words-tells, words-stay, words-goes, words-typed, and-number, and-words}
-use Rattle.writer.proofs.Walk.{WalkAt, begins, field-of, whole-of, stores, lands-in, frees-at, tokens, token, ContractOf, calls-met, ends, by-walk}
+use Rattle.walks.proofs.Plain.{number-stay, number-goes, wordsVal, words-vals, words-tells, words-stay, words-goes, words-typed, and-number, and-words}
+use Rattle.walks.proofs.Walk.{WalkAt, begins, field-of, whole-of, stores, lands-in, frees-at, tokens, token, ContractOf, calls-met, ends, by-walk}
 use Rattle.writer.proofs.Held.{ParcelsAt, WriterAt, sliceOf, typed, room-of, place-of, writer-vals, writer-tells, writerVal, slice-of, writer-of, writer-spent, writer-spent-goes, spent-had}
-use Rattle.writer.proofs.Again.{LentAgain, lends-again, comes-back}
+use Rattle.walks.proofs.Again.{LentAgain, lends-again, comes-back}
 use Rattle.writer.proofs.put_run as put-run
 use Rattle.writer.proofs.put_run.Symbol as put-run-def
 use Rattle.writer.proofs.put_run.Symbol.{name as #writer·put-run}

@@ -34,8 +34,8 @@ use denote.Triple.Walked.{needs, Stays, stay-slice, walkOf, goes-slice}
 use Rattle.writer.specs.declared.Writer.{Writer}
 use Rattle.writer.specs.Writing.{appended}
 use Rattle.writer.proofs.Writer.Laws as T′
-use Rattle.writer.proofs.Plain.{number-stay, number-goes, wordsVal, words-vals, words-tells, words-stay, words-goes, words-typed, number, and-number, and-words}
-use Rattle.writer.proofs.Walk.{WalkAt, begins, field-of, whole-of, stores, lands-in, frees-at, ContractOf, calls-met, ends, by-walk}
+use Rattle.walks.proofs.Plain.{number-stay, number-goes, wordsVal, words-vals, words-tells, words-stay, words-goes, words-typed, number, and-number, and-words}
+use Rattle.walks.proofs.Walk.{WalkAt, begins, field-of, whole-of, stores, lands-in, frees-at, ContractOf, calls-met, ends, by-walk}
 use Rattle.writer.proofs.Held.{ParcelsAt, WriterAt, sliceOf, typed, place-of, writer-tells, slice-of}
 use Rattle.writer.proofs.Opened.{Open, opens}
 use Rattle.writer.proofs.open.Symbol as open-def

@@ -31,8 +31,8 @@ use denote.Triple.Statement.{Triple}
 use denote.Triple.Table.{cited}
 use denote.Triple.Walked.{needs, Stays, gave-slice, walkOf, goes-gave-slice}
 use Rattle.writer.specs.declared.Writer.{Writer}
-use Rattle.writer.proofs.Plain.{number-stay, number-goes, wordsVal, words-vals, words-tells, words-stay, words-goes, words-typed, and-number, and-words}
-use Rattle.writer.proofs.Walk.{WalkAt, begins, field-of, whole-of, stores, lands-in, frees-at, ContractOf, calls-met, ends, by-walk}
+use Rattle.walks.proofs.Plain.{number-stay, number-goes, wordsVal, words-vals, words-tells, words-stay, words-goes, words-typed, and-number, and-words}
+use Rattle.walks.proofs.Walk.{WalkAt, begins, field-of, whole-of, stores, lands-in, frees-at, ContractOf, calls-met, ends, by-walk}
 use Rattle.writer.proofs.Held.{sliceOf, typed}
 use Rattle.writer.proofs.Opened.{Open, opens}
 use Rattle.writer.proofs.open.Symbol as open-def

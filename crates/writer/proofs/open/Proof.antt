@@ -25,8 +25,8 @@ use denote.Signature.{plain, mutSliceOf}
 use denote.Steps.{nothing}
 use denote.Triple.Walked.{Stays, stay-dropped, walkOf, goes-spent-slice}
 use denote.Exit.{no}
-use Rattle.writer.proofs.Plain.{number-stay, number-goes}
-use Rattle.writer.proofs.Walk.{WalkAt, begins, field-of, whole-of, stores, frees-at, ends, by-walk}
+use Rattle.walks.proofs.Plain.{number-stay, number-goes}
+use Rattle.walks.proofs.Walk.{WalkAt, begins, field-of, whole-of, stores, frees-at, ends, by-walk}
 use Rattle.writer.proofs.Held.{WriterAt, sliceOf, writerVal, writer-of}
 use Rattle.writer.proofs.open.Key.{name as #writer·open}
 use Rattle.writer.proofs.open as open′

@@ -29,8 +29,8 @@ use denote.Triple.Statement.{Triple}
 use denote.Triple.Table.{cited}
 use denote.Triple.Walked.{needs, Stays, walkOf}
 use Rattle.writer.specs.declared.Writer.{Writer}
-use Rattle.writer.proofs.Plain.{number-stay, number-goes, wordsVal, words-vals, words-tells, words-stay, words-goes, words-typed, number, and-number, and-words}
-use Rattle.writer.proofs.Walk.{WalkAt, begins, field-of, whole-of, stores, lands-in, frees-at, ContractOf, calls-met, ends, by-walk}
+use Rattle.walks.proofs.Plain.{number-stay, number-goes, wordsVal, words-vals, words-tells, words-stay, words-goes, words-typed, number, and-number, and-words}
+use Rattle.walks.proofs.Walk.{WalkAt, begins, field-of, whole-of, stores, lands-in, frees-at, ContractOf, calls-met, ends, by-walk}
 use Rattle.writer.proofs.Held.{ParcelsAt, WriterAt, sliceOf, typed, room-of, place-of, writer-vals, writer-tells, writerVal, slice-of, writer-gave, writer-gave-goes, gave-had}
 use Rattle.writer.proofs.put_three as put-three
 use Rattle.writer.proofs.put_three.Symbol as put-three-def

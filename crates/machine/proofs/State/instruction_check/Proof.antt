@@ -1,7 +1,6 @@
--- The tests in order, the last one that of the room.
+use Rattle.machine.proofs.Checks.{last-one}
 use mathlib.Core.Path.{sym, _∙_}
 use borrow.Author.Needs.{needs}
-use Rattle.machine.proofs.Checks.{last-one}
 use Rattle.machine.proofs.State.instruction_check.Statement.{statement}
 use Rattle.machine.proofs.State.instruction_check.Tie as tie
 
@@ -11,20 +10,26 @@ bars-requires c κs = search needs
 returns : tie.Need-returns
 returns c = rw (sym (c .before .bars .ensures) ∙ c .if1 .taken)
 
+form-verdict-requires : tie.Need-form-verdict-requires
+form-verdict-requires c κs = search needs
+
 enum-known-encodes : tie.Need-enum-known-encodes
 enum-known-encodes c = search needs
 
 enum-told : tie.Need-enum-told
 enum-told c = search needs
 
+form-size-requires : tie.Need-form-size-requires
+form-size-requires c κs = search needs
+
 room-check-requires : tie.Need-room-check-requires
 room-check-requires c κs = search needs
 
 returns-2 : tie.Need-returns-2
-returns-2 c = rw (sym (c .before .before .before .before .bars .ensures) ∙ c .before .before .before .if1 .left, c .before .encodes .given .1)
+returns-2 c = rw (sym (c .before .before .before .before .before .bars .ensures) ∙ c .before .before .before .before .if1 .left, sym (c .before .before .before .form-verdict .ensures) ∙ c .before .encodes .given .1)
 
 returns-3 : tie.Need-returns-3
-returns-3 c = rw (sym (c .before .before .before .before .bars .ensures) ∙ c .before .before .before .if1 .left, c .before .enum-told .given .1, last-one) (c .room-check .ensures)
+returns-3 c = rw (sym (c .before .before .before .before .before .before .bars .ensures) ∙ c .before .before .before .before .before .if1 .left, sym (c .before .before .before .before .form-verdict .ensures) ∙ c .before .before .enum-told .given .1, last-one) (rw (c .before .form-size .ensures .0) at (c .room-check .ensures))
 
 pub instruction-check-spec : {M : Type 1} → statement M
 instruction-check-spec =
@@ -32,8 +37,10 @@ instruction-check-spec =
     (tie.spec
     bars-requires
     returns
+    form-verdict-requires
     enum-known-encodes
     enum-told
+    form-size-requires
     room-check-requires
     returns-2
     returns-3)

@@ -4,36 +4,25 @@ use mathlib.Core.Path.{sym, _∙_}
 use borrow.Author.Needs.{needs}
 use Rattle.machine.proofs.State.loop_end.Statement.{statement}
 use Rattle.machine.proofs.State.loop_end.Tie as tie
-use Rattle.machine.proofs.State.loop_end.Reads as reads
-use Rattle.machine.proofs.State.loop_end.Lts as lts
-use Rattle.machine.proofs.State.close.Reads as close-reads
-use Rattle.machine.proofs.State.end_check.Reads as end-check-reads
 
--- src/lib.rt:355:13
 end-check-requires : tie.Need-end-check-requires
 end-check-requires c κs = search needs
 
--- src/lib.rt:357:30
 enum-known-k : tie.Need-enum-known-k
 enum-known-k c = search needs
 
--- src/lib.rt:358:59
 enum-told : tie.Need-enum-told
 enum-told c = search needs
 
--- src/lib.rt:358:43
 close-requires : tie.Need-close-requires
 close-requires c κs = let a = c .before .before .before .before .before .args in let i = end-good (a .self) (a .top) (sym (c .before .before .before .end-check .ensures) ∙ c .before .enum-told .given .1) .inside in omega (arith, c .before .before .before .before .before .pre .4 i .0)
 
--- src/lib.rt:351:5
 returns : tie.Need-returns
 returns c = let e = sym (c .before .before .before .end-check .ensures) ∙ c .before .k .given .1 in record { answer = stopped _ e; parcels = kept _ _ e }
 
--- src/lib.rt:351:5
 same-length : tie.Need-same-length
 same-length c = search needs
 
--- src/lib.rt:351:5
 returns-2 : tie.Need-returns-2
 returns-2 c = let e = sym (c .before .before .before .before .before .before .end-check .ensures) ∙ c .before .before .before .before .enum-told .given .1 in record { answer = rw (c .before .before .close .ensures .0) (went _ e); parcels = took _ _ e (c .before .before .close .ensures .1) }
 

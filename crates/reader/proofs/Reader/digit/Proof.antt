@@ -3,7 +3,7 @@ use mathlib.Core.Path.{refl}
 use borrow.Author.Tests.{lt-ltb, le-ltb}
 use borrow.Author.Needs.{needs}
 use Rattle.reader.specs.Steps.{digitOf}
-use Rattle.reader.proofs.Picks.{yes, no, digit-yes, digit-low, digit-high}
+use Rattle.reader.proofs.Conds.{yes, no, digit-yes, digit-low, digit-high}
 use Rattle.reader.proofs.Reader.digit.Statement.{statement}
 use Rattle.reader.proofs.Reader.digit.Tie as tie
 

@@ -6,7 +6,7 @@ use lib.ListN.{length-set}
 use borrow.Author.Tests.{eq-eqb, ne-eqb, not-true, not-false}
 use borrow.Author.Needs.{needs}
 use Rattle.reader.specs.Steps.{endOf}
-use Rattle.reader.proofs.Picks.{yes, no}
+use Rattle.reader.proofs.Conds.{yes, no}
 use Rattle.reader.proofs.Reader.end.Statement.{statement}
 use Rattle.reader.proofs.Reader.end.Tie as tie
 

@@ -2,7 +2,7 @@
 use mathlib.Core.Path.{refl}
 use borrow.Author.Tests.{eq-eqb, ne-eqb}
 use borrow.Author.Needs.{needs}
-use Rattle.reader.proofs.Picks.{yes, no}
+use Rattle.reader.proofs.Conds.{yes, no}
 use Rattle.reader.proofs.Reader.name_of.Statement.{statement}
 use Rattle.reader.proofs.Reader.name_of.Tie as tie
 

@@ -3,7 +3,7 @@ use mathlib.Core.Path.{refl}
 use native.Mathlib.Omega.{arith}
 use borrow.Author.Needs.{needs}
 use Rattle.reader.specs.Steps.{readingOf}
-use Rattle.reader.proofs.Picks.{yes, no}
+use Rattle.reader.proofs.Conds.{yes, no}
 use Rattle.reader.proofs.Reader.reading.Statement.{statement}
 use Rattle.reader.proofs.Reader.reading.Tie as tie
 

@@ -2,7 +2,7 @@
 use borrow.Author.Tests.{lt-ltb, le-ltb, not-true, not-false}
 use borrow.Author.Needs.{needs}
 use Rattle.reader.specs.Steps.{tabOf}
-use Rattle.reader.proofs.Picks.{yes, no}
+use Rattle.reader.proofs.Conds.{yes, no}
 use Rattle.reader.proofs.Reader.tab.Statement.{statement}
 use Rattle.reader.proofs.Reader.tab.Tie as tie
 

@@ -3,7 +3,7 @@ use mathlib.Core.Path.{refl}
 use borrow.Author.Tests.{eq-eqb, ne-eqb, le-leb, lt-leb}
 use borrow.Author.Needs.{needs}
 use Rattle.reader.specs.Steps.{turnOf}
-use Rattle.reader.proofs.Picks.{yes, no, in-rows, in-names}
+use Rattle.reader.proofs.Conds.{yes, no, in-rows, in-names}
 use Rattle.reader.proofs.Reader.turn.Statement.{statement}
 use Rattle.reader.proofs.Reader.turn.Tie as tie
 

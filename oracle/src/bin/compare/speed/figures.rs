@@ -4,6 +4,7 @@ use std::hint::black_box;
 
 use lhodrupesh::{c, plain};
 use visa_oracle::cases::Lengths;
+pub use visa_oracle::kernels::SPARSE;
 use visa_oracle::list::List;
 use visa_oracle::random::Random;
 use visa_oracle::row::Row;
@@ -43,8 +44,6 @@ pub struct Figures {
 
 /// Kernels of these sizes.
 pub const SIZES: [usize; 4] = [40, 400, 10_000, 1_000_000];
-/// One block of 40 items in so many has a label and a jump; in the dense kernels each has.
-pub const SPARSE: usize = 10;
 
 pub fn take(seed: u64, runs: u64) -> Figures {
     clock::keep_memory();

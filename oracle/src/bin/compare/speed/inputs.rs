@@ -1,61 +1,10 @@
 //! What is timed: kernels of some sizes, and lists of labels and jumps.
 
+use visa_oracle::kernels::name;
+pub use visa_oracle::kernels::{instruction, kernel};
 use visa_oracle::list::List;
 use visa_oracle::random::Random;
-use visa_oracle::row::{row, Row};
-use visa_oracle::rows::{encodes, some_kind};
 use visa_oracle::second::Limits;
-
-/// The items of a block of a kernel: a loop, and instructions before and after it.
-const BLOCK: usize = 40;
-/// The instructions of a loop's body.
-const BODY: usize = 14;
-/// Full-width kinds that stay.
-const WIDE: [u32; 12] = [0, 8, 9, 12, 17, 18, 27, 32, 33, 34, 37, 39];
-
-/// A row of an instruction, of any kind that encodes.
-pub fn instruction(random: &mut Random) -> Row {
-    let kind = some_kind(random);
-    encodes(random, kind)
-}
-
-/// A kernel of so many items, in blocks of 40: each has a loop, and one block in `every`, the first
-/// one too, a label and a jump back to it, up to the limit.
-pub fn kernel(random: &mut Random, items: usize, every: usize) -> List {
-    let mut list = List::default();
-    list.numbers.reserve(row(&[]).len() * items);
-    for block in 0..items / BLOCK {
-        let number = block / every;
-        let labelled = block % every == 0 && number < Limits::default().labels;
-        add_block(random, &mut list, labelled.then(|| name(number)));
-    }
-    list
-}
-
-fn add_block(random: &mut Random, list: &mut List, label: Option<String>) {
-    let before = (BLOCK - BODY - 2) / 2;
-    match &label {
-        Some(name) => list.push_named(&[48], name.as_bytes()),
-        None => list.push(&instruction(random)),
-    }
-    (1..before).for_each(|_| list.push(&instruction(random)));
-    list.push(&row(&[50, 0, 1 + random.below(0xffff), random.below(2)]));
-    for _ in 0..BODY {
-        let kind = random.pick(&WIDE);
-        list.push(&encodes(random, kind));
-    }
-    list.push(&row(&[51]));
-    (1..before).for_each(|_| list.push(&instruction(random)));
-    match &label {
-        Some(name) => list.push_named(&[49, random.below(7)], name.as_bytes()),
-        None => list.push(&instruction(random)),
-    }
-}
-
-/// The names of labels are of one length.
-fn name(number: usize) -> String {
-    format!("label_{number:04}")
-}
 
 /// Which label a jump goes to.
 #[derive(Debug, Clone, Copy)]

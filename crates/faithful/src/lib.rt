@@ -1,0 +1,1 @@
+// Definitions and theorems alone: the word of each row is faithful to its fields.

@@ -1,0 +1,92 @@
+-- For each call that C makes: no second answer fits its promise, number 0 is acceptance, every other number is one of its table.
+use mathlib.Core.Path.{_≡_, ap₂}
+use mathlib.Core.Logic.{_↔_, _⊎_}
+use mathlib.Core.Bool.{true}
+use mathlib.Core.List.{List, _∷_}
+use Prim.Native.Nat.{ℕ, _*_, _<_, _≤_}
+use lib.ListN.{length}
+use Rattle.refusals.specs.declared.Told.{Told}
+use Rattle.refusals.specs.Numbers.{among}
+use Rattle.rows.specs.Rows.{wellFormed}
+use Rattle.instruction.specs.Instruction.{instructionNumbers, Encodes}
+use Rattle.instruction.proofs.Single.{no-second-answer}
+use Rattle.instruction.proofs.Numbers.{Accepted, instruction-zero, instruction-numbers}
+use Rattle.places.specs.Left.{Lent, Builds}
+use Rattle.places.proofs.Single.{no-second-build}
+use Rattle.rules.specs.Accepted.{ValidRows}
+use Rattle.rules.proofs.Answers.{accepted-well-formed, build-accepts-exactly-when-valid}
+use Rattle.rules.proofs.Fits.{accepted-fits}
+use Rattle.rules.proofs.Numbers.{Tellable, build-tells}
+use Rattle.counts.specs.declared.Counting.{Counting}
+use Rattle.counts.specs.Counts.{rowVerdict, Counts, numbersFor}
+use Rattle.counts.proofs.Single.{no-second-count}
+use Rattle.counts.proofs.Numbers.{Passes, count-zero, count-numbers}
+use Rattle.slots.specs.Slots.{Checks, slotNumbers}
+use Rattle.slots.proofs.Single.{no-second-verdict}
+use Rattle.slots.proofs.Numbers.{Filled, check-zero, check-numbers}
+use Rattle.parcel_bytes.specs.declared.ToldBytes.{ToldBytes}
+use Rattle.parcel_bytes.specs.Bytes.{Writes}
+use Rattle.parcel_bytes.proofs.Single as bytes
+use Rattle.link.specs.declared.One.{One}
+use Rattle.link.specs.One.{oneOf, toldIn}
+
+-- ---- lhodrupesh_instruction
+module _ (row : List ℕ) {r : One} (promise : Encodes row (toldIn r) (r .places)) where
+  pub no-second-one : {s : One} → Encodes row (toldIn s) (s .places) → r ≡ s
+  no-second-one other = let e = no-second-answer row promise other in ap₂ (λ (t : Told) (p : List ℕ). oneOf t p) (e .0) (e .1)
+
+  pub one-zero : (r .number ≡ 0) ↔ Accepted row
+  one-zero = instruction-zero row promise
+
+  pub one-numbers : among (0 ∷ instructionNumbers) (toldIn r) ≡ true
+  one-numbers = instruction-numbers row promise
+
+-- ---- lhodrupesh_build
+module _ (rows names : List ℕ) (lent : Lent) {t : Told} {left : Lent} (promise : Builds rows names lent t left) where
+  pub no-second-built : {s : Told} {other : Lent} → Builds rows names lent s other → (t ≡ s) × (left ≡ other)
+  no-second-built {s} {other} b = no-second-build rows names lent t s left other promise b
+
+  -- DEMAND 3 of what C calls: number 0 exactly where the list is well formed and the rules hold
+  pub build-zero : (t .number ≡ 0) ↔ ((wellFormed (length rows) ≡ true) × ValidRows rows names lent)
+  build-zero = (
+    (λ e. let w = accepted-well-formed rows names lent t left promise e in (w, build-accepts-exactly-when-valid rows names lent t left promise w .0 e)),
+    (λ v. build-accepts-exactly-when-valid rows names lent t left promise (v .0) .1 (v .1)),
+  )
+
+  -- the parcels counted lie in the lent ones
+  pub build-count : t .number ≡ 0 → t .count ≤ length (lent .parcels)
+  build-count e = accepted-fits rows names lent t left promise e
+
+  -- a number of the build's table; the range of a name lies in the names, and any other answer has range 0, 0
+  pub build-numbers : Tellable names t
+  build-numbers = build-tells rows names lent t left promise
+
+-- ---- lhodrupesh_parcel_count, lhodrupesh_instruction_count
+module _ (what : Counting) (rows names : List ℕ) {t : Told} (promise : Counts what rows names t) where
+  pub no-second-counted : {s : Told} → Counts what rows names s → t ≡ s
+  no-second-counted other = no-second-count what rows names promise other
+
+  pub counted-zero : (t .number ≡ 0) ↔ Passes (rowVerdict what) rows names
+  counted-zero = count-zero what rows names promise
+
+  pub counted-numbers : among (0 ∷ numbersFor what) t ≡ true
+  counted-numbers = count-numbers what rows names promise
+
+-- ---- lhodrupesh_slot_check
+module _ (rows names : List ℕ) {t : Told} (promise : Checks rows names t) where
+  pub no-second-checked : {s : Told} → Checks rows names s → t ≡ s
+  no-second-checked other = no-second-verdict rows names promise other
+
+  pub checked-zero : (t .number ≡ 0) ↔ Filled rows names
+  checked-zero = check-zero rows names promise
+
+  pub checked-numbers : among (0 ∷ slotNumbers) t ≡ true
+  checked-numbers = check-numbers rows names promise
+
+-- ---- lhodrupesh_bytes
+module _ (parcels lent : List ℕ) {t : ToldBytes} {left : List ℕ} (promise : Writes parcels lent t left) where
+  pub no-second-written : {s : ToldBytes} {other : List ℕ} → Writes parcels lent s other → (t ≡ s) × (left ≡ other)
+  no-second-written b = bytes.no-second-answer parcels lent promise b
+
+  pub written-zero : ((t .number ≡ 0) × (2 * length parcels ≤ length lent)) ⊎ ((t .number ≡ 34) × (length lent < 2 * length parcels))
+  written-zero = bytes.written-or-34 parcels lent promise

@@ -1,0 +1,35 @@
+-- Document 01, "Traps on the way", where a list shows the trap: by computing what a build comes to.
+use mathlib.Core.Path.{_≡_, refl}
+use mathlib.Core.List.{[], _∷_}
+use lib.IntN.{pos}
+use lib.ListN.{replicate}
+use Rattle.refusals.specs.Numbers.{alone, one}
+use Rattle.bounds.specs.Bounds.{fields, compute, boundsOf}
+use Rattle.bounds.specs.Checks.{said, placesOf, checkOf}
+use Rattle.computes.specs.Compute.{madeMulti, madeSingle}
+use Rattle.encode.specs.Registers.{inDag}
+use Rattle.encode.specs.Layouts.{layoutOf}
+use Rattle.encode.specs.Encoding.{jumpForm, loopForm, formOf, parcelsOf, verdictOf}
+use Rattle.rows.specs.Fields.{conditionOf, modeOf, aluOpOf, countOf, scalars, transfers, others, instructionOf}
+use Rattle.rows.specs.Rows.{computeOf, itemOf, readOf}
+use Rattle.places.specs.Kernels.{build, Refuses}
+
+-- "Testing a zero count at the loop start": a loop of count 0 is refused with 20 at its end, over a WideNop; without a body with 22, which stands
+-- before 20 in the order of a loop end; without an end with 23, and not at its start
+pub zero-count-told-at-the-end :
+    Refuses ((50 ∷ 0 ∷ 0 ∷ 0 ∷ []) ∷ (39 ∷ []) ∷ (51 ∷ []) ∷ []) (alone 20)
+    × Refuses ((50 ∷ 0 ∷ 0 ∷ 0 ∷ []) ∷ (51 ∷ []) ∷ []) (alone 22)
+    × Refuses ((50 ∷ 0 ∷ 0 ∷ 0 ∷ []) ∷ (39 ∷ []) ∷ []) (alone 23)
+unfolding fields compute boundsOf said placesOf checkOf madeMulti madeSingle inDag layoutOf jumpForm loopForm formOf parcelsOf verdictOf conditionOf modeOf aluOpOf countOf scalars transfers others instructionOf computeOf itemOf readOf
+zero-count-told-at-the-end = (refl, refl, refl)
+
+-- "A tail rule that .. reports the earliest short one": of two the later is told, by its parcel; "skips nested loop starts": a nested start is one
+-- of the last 11, so the Nop before ten WideNops and a nested loop of one is the thirteenth from the end
+pub latest-short-told : Refuses ((50 ∷ 0 ∷ 1 ∷ 0 ∷ []) ∷ (38 ∷ []) ∷ (38 ∷ []) ∷ (51 ∷ []) ∷ []) (one 26 (pos 4))
+unfolding fields compute boundsOf said placesOf checkOf madeMulti madeSingle inDag layoutOf jumpForm loopForm formOf parcelsOf verdictOf conditionOf modeOf aluOpOf countOf scalars transfers others instructionOf computeOf itemOf readOf
+latest-short-told = refl
+
+-- "Refused: zeros stand in the parcels .. that the rows before the refused one took .. All else is unchanged": a Nop, then an unknown kind
+pub refused-leaves-zeros : build ((38 ∷ []) ∷ (13 ∷ []) ∷ []) .lent .parcels ≡ 0 ∷ replicate 11 7
+unfolding fields compute boundsOf said placesOf checkOf madeMulti madeSingle inDag layoutOf jumpForm loopForm formOf parcelsOf verdictOf conditionOf modeOf aluOpOf countOf scalars transfers others instructionOf computeOf itemOf readOf
+refused-leaves-zeros = refl

@@ -1,0 +1,143 @@
+-- What a build leaves in the lent buffers. Document 01, "Rooms and what is left".
+use mathlib.Core.Path.{_≡_}
+use mathlib.Core.Bool.{cond, false}
+use mathlib.Core.List.{List, [], _∷_, _++_}
+use Prim.Native.Nat.{ℕ, zero, suc}
+use lib.ListN.{length, drop, replicate}
+use Rattle.refusals.specs.declared.Told.{Told}
+use Rattle.refusals.specs.declared.Answer.{Answer}
+use Rattle.refusals.specs.declared.Answer.the-variants as answer
+use Rattle.refusals.specs.declared.Refusal.the-variants.{RowSlice}
+use Rattle.refusals.specs.declared.Verdict.{Verdict}
+use Rattle.refusals.specs.Numbers.{answerOf, answered}
+use Rattle.refusals.specs.Order.{ifGood}
+use Rattle.items.specs.declared.Condition.{Condition}
+use Rattle.items.specs.declared.LoopCount.{LoopCount}
+use Rattle.items.specs.declared.LoopMode.{LoopMode}
+use Rattle.encode.specs.Encoding.{formParcels, jumpForm, loopForm, settled}
+use Rattle.rows.specs.Rows.{wellFormed}
+use Rattle.coded.specs.declared.Coded.{Coded}
+use Rattle.coded.specs.declared.Coded.the-variants as coded
+use Rattle.coded.specs.declared.Coded.the-variants.{Instruction, Label, Jump, LoopBegin, LoopEnd}
+use Rattle.places.specs.declared.OpenLoop.{OpenLoop}
+use Rattle.places.specs.declared.Rooms.{Rooms}
+use Rattle.places.specs.Items.{rowAt, rowsIn, place, address, roomsOf}
+use Rattle.places.specs.Looking.{Found, at, nothing, closer, deepest, labelled, part}
+use Rattle.places.specs.Verdict.{jumpOffset, loopOffset, Kernel, kernel, verdict, taken}
+
+-- what is lent: "parcels", "label entries", "waiting jumps", and "a lent table of loop records"
+pub record Lent : Type 0 where
+  pub parcels : List ℕ
+  pub labels : List ℕ
+  pub jumps : List ℕ
+  pub loops : List OpenLoop
+
+abbrev pub lentOf : List ℕ → List ℕ → List ℕ → List OpenLoop → Lent
+lentOf p l j k = record { parcels = p; labels = l; jumps = j; loops = k }
+
+abbrev pub roomsIn : Lent → Rooms
+roomsIn lent = roomsOf (length (lent .parcels)) (length (lent .labels)) (length (lent .jumps)) (length (lent .loops))
+
+-- "Zero in a loop record is an immediate count 0, mode 0."
+abbrev pub zeroLoop : OpenLoop
+zeroLoop = record { place = 0; first = 0; count = 0; mode = 0 }
+
+-- ---- what item i of n leaves: parcels, a label entry, a waiting jump
+pub record Leaves : Type 0 where
+  pub parcels : List ℕ
+  pub labels : List ℕ
+  pub jumps : List ℕ
+
+abbrev pub leaves : List ℕ → List ℕ → List ℕ → Leaves
+leaves p l j = record { parcels = p; labels = l; jumps = j }
+
+-- a word whose label, or whose loop's end, is not found
+abbrev pub zeros : List ℕ
+zeros = 0 ∷ 0 ∷ 0 ∷ []
+
+module _ (it : ℕ → Coded) where
+  abbrev pub jumpParcels : Condition → ℕ → Found → List ℕ
+  jumpParcels c i (at label) = settled (jumpForm c (jumpOffset it label i) false)
+  jumpParcels c i nothing = zeros
+
+  abbrev pub loopParcels : LoopCount → LoopMode → ℕ → Found → List ℕ
+  loopParcels c m i (at e) = settled (loopForm c m (loopOffset it e i))
+  loopParcels c m i nothing = zeros
+
+-- "Label entries (start, length, place) and waiting jumps (place, row)"
+abbrev pub left : List ℕ → (ℕ → Coded) → ℕ → ℕ → Coded → Leaves
+left names it n i (Instruction c) = leaves (formParcels (c .form)) [] []
+left names it n i (Label a b) = leaves [] (a ∷ b ∷ address it i ∷ []) []
+left names it n i (Jump c a b) = leaves (jumpParcels it c i (labelled names it a b n)) [] (place it i ∷ i ∷ [])
+left names it n i (LoopBegin c m) = leaves (loopParcels it c m i (closer it n i)) [] []
+left names it n i LoopEnd = leaves [] [] []
+left names it n i (coded.Refused r) = leaves [] [] []
+
+-- f 0, .., f (i - 1), one after the other
+abbrev pub gather : (ℕ → List ℕ) → ℕ → List ℕ
+gather f zero = []
+gather f (suc i) = gather f i ++ f i
+
+-- "Accepted: parcels at the front, labels and jumps in item order .. Refused: zeros stand .. All else is unchanged."
+abbrev pub put : Verdict → List ℕ → List ℕ → List ℕ
+put v new old = ifGood v new (replicate (length new) 0) ++ drop (length new) old
+
+-- ---- what a build comes to: the answer, and what is left in the lent buffers
+pub record Outcome : Type 0 where
+  pub answer : Answer
+  pub lent : Lent
+
+abbrev pub outcome : Answer → Lent → Outcome
+outcome a lent = record { answer = a; lent = lent }
+
+module _ (k : Kernel) (lent : Lent) where
+  abbrev pub judged : Verdict
+  judged = verdict k (roomsIn lent)
+
+  abbrev pub took : ℕ
+  took = taken k (roomsIn lent)
+
+  abbrev pub leftBy : ℕ → Leaves
+  leftBy i = left (k .names) (k .it) (k .n) i (k .it i)
+
+  -- zeros "in the parcels, label entries and jump entries that the rows before the refused one took .., and in the loop places up to
+  -- their deepest nesting"; accepted: "used loop places zero"
+  abbrev pub built : Outcome
+  built =
+      outcome (answerOf judged (place (k .it) (k .n)))
+      (record {
+        parcels = put judged (gather (λ i. leftBy i .parcels) took) (lent .parcels);
+        labels = put judged (gather (λ i. leftBy i .labels) took) (lent .labels);
+        jumps = put judged (gather (λ i. leftBy i .jumps) took) (lent .jumps);
+        loops = replicate (deepest (k .it) took) zeroLoop ++ drop (deepest (k .it) took) (lent .loops);
+      })
+
+-- the rows of a slice, with their names
+abbrev pub kernelOf : List ℕ → List ℕ → Kernel
+kernelOf rows names = kernel names (rowAt rows names) (rowsIn rows)
+
+-- 1 changes nothing; else the rows are built
+abbrev pub buildOf : List ℕ → List ℕ → Lent → Outcome
+buildOf rows names lent = cond (wellFormed (length rows)) (built (kernelOf rows names) lent) (outcome (answer.Refused RowSlice) lent)
+
+-- THE CONTRACT of a build: what is told, in document 01's numbers, and what is left, are what the build comes to
+pub record Builds (rows names : List ℕ) (lent : Lent) (told : Told) (left : Lent) : Type 0 where
+  pub answer : told ≡ answered (buildOf rows names lent .answer)
+  pub parcels : left .parcels ≡ buildOf rows names lent .lent .parcels
+  pub labels : left .labels ≡ buildOf rows names lent .lent .labels
+  pub jumps : left .jumps ≡ buildOf rows names lent .lent .jumps
+  pub loops : left .loops ≡ buildOf rows names lent .lent .loops
+
+-- the same with 64 loop records of its own, all zero
+abbrev pub BuildsAlone : List ℕ → List ℕ → List ℕ → List ℕ → List ℕ → Told → List ℕ → List ℕ → List ℕ → Type 0
+BuildsAlone rows names p l j told p′ l′ j′ =
+    Builds rows names (lentOf p l j (replicate 64 zeroLoop)) told (lentOf p′ l′ j′ (buildOf rows names (lentOf p l j (replicate 64 zeroLoop)) .lent .loops))
+
+-- "the name itself is handed back as that part of the lent names, by a call on the answer and the names .. any other answer, or a range
+-- outside the names, gives an empty part"
+abbrev pub nameOf : List ℕ → Answer → List ℕ
+nameOf names a = part names (answered a .start) (answered a .length)
+
+-- THE CONTRACT of the name that is handed back
+abbrev pub HandsBack : List ℕ → Answer → List ℕ → Type 0
+HandsBack names a x = x ≡ nameOf names a

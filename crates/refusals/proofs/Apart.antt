@@ -1,0 +1,118 @@
+-- The numbers tell refusals apart: the refusals in their order, with the told details, hold at the told number the refusal that tells it.
+use mathlib.Core.Path.{_≡_, refl, sym, ap, subst, _∙_}
+use mathlib.Core.Bool.{false, true≢false, cond}
+use mathlib.Core.List.{List, [], _∷_}
+use Prim.Native.Nat.{_-_, _<_}
+use native.Mathlib.Omega.{arith}
+use lib.ListN.{getD}
+use lib.IntN.{natAbs}
+use lib.Dec.{eqb}
+use borrow.Author.Tests.{ne-eqb}
+use Rattle.refusals.specs.declared.Told.{Told}
+use Rattle.refusals.specs.declared.Refusal.{Refusal}
+use Rattle.refusals.specs.declared.Refusal.the-variants.{RowSlice, Row, Encoding, InvalidUniversalRegister, InvalidDmIndex, InvalidDmModifier, UnsupportedPostModifyRegister, Dag1StoreSource, BranchOutOfRange, CallTargetOutOfRange, DuplicateLabel, UndefinedLabel, InvalidPmIndex, InvalidPmModifier, MixedDag, SameDagRegister, NotACompute, MultifunctionOperand, DuplicateDestination, LoopCountZero, LoopOutOfRange, EmptyLoop, UnclosedLoop, UnmatchedLoopEnd, SharedLoopEnd, LoopTailNotFullWidth, BranchInLoop, LabelInLoop, NoRoomForParcels, NoRoomForLabels, NoRoomForJumps, NoRoomForLoops, BrokenSlot, NoRoomForBytes}
+use Rattle.refusals.specs.declared.Answer.{Answer}
+use Rattle.refusals.specs.declared.Answer.the-variants as answer
+use Rattle.refusals.specs.Numbers.{toldOf, answered}
+use Rattle.refusals.proofs.Numbered.{numbered}
+
+abbrev refusals : Told → List Refusal
+refusals t =
+    RowSlice
+    ∷ Row
+    ∷ Encoding
+    ∷ InvalidUniversalRegister (natAbs (t .first))
+    ∷ InvalidDmIndex (natAbs (t .first))
+    ∷ InvalidDmModifier (natAbs (t .first))
+    ∷ UnsupportedPostModifyRegister (natAbs (t .first))
+    ∷ Dag1StoreSource (natAbs (t .first))
+    ∷ BranchOutOfRange (t .first)
+    ∷ CallTargetOutOfRange (natAbs (t .first))
+    ∷ DuplicateLabel (t .start) (t .length)
+    ∷ UndefinedLabel (t .start) (t .length)
+    ∷ InvalidPmIndex (natAbs (t .first))
+    ∷ InvalidPmModifier (natAbs (t .first))
+    ∷ MixedDag (natAbs (t .first)) (natAbs (t .second))
+    ∷ SameDagRegister (natAbs (t .first))
+    ∷ NotACompute
+    ∷ MultifunctionOperand (natAbs (t .first)) (natAbs (t .second))
+    ∷ DuplicateDestination (natAbs (t .first))
+    ∷ LoopCountZero
+    ∷ LoopOutOfRange (t .first)
+    ∷ EmptyLoop
+    ∷ UnclosedLoop
+    ∷ UnmatchedLoopEnd
+    ∷ SharedLoopEnd
+    ∷ LoopTailNotFullWidth (natAbs (t .first))
+    ∷ BranchInLoop
+    ∷ LabelInLoop (t .start) (t .length)
+    ∷ NoRoomForParcels (natAbs (t .first))
+    ∷ NoRoomForLabels (natAbs (t .first))
+    ∷ NoRoomForJumps (natAbs (t .first))
+    ∷ NoRoomForLoops (natAbs (t .first))
+    ∷ BrokenSlot (natAbs (t .first))
+    ∷ NoRoomForBytes (natAbs (t .first))
+    ∷ []
+
+-- the refusal that is told; 34 up to the largest detail
+abbrev pub refusalFrom : Told → Refusal
+refusalFrom t = getD (refusals t) (t .number - 1) RowSlice
+
+pub refusal-told : (r : Refusal) → eqb (toldOf r .number) 34 ≡ false → refusalFrom (toldOf r) ≡ r
+refusal-told RowSlice e = refl
+refusal-told Row e = refl
+refusal-told Encoding e = refl
+refusal-told (InvalidUniversalRegister a) e = refl
+refusal-told (InvalidDmIndex a) e = refl
+refusal-told (InvalidDmModifier a) e = refl
+refusal-told (UnsupportedPostModifyRegister a) e = refl
+refusal-told (Dag1StoreSource a) e = refl
+refusal-told (BranchOutOfRange a) e = refl
+refusal-told (CallTargetOutOfRange a) e = refl
+refusal-told (DuplicateLabel a b) e = refl
+refusal-told (UndefinedLabel a b) e = refl
+refusal-told (InvalidPmIndex a) e = refl
+refusal-told (InvalidPmModifier a) e = refl
+refusal-told (MixedDag a b) e = refl
+refusal-told (SameDagRegister a) e = refl
+refusal-told NotACompute e = refl
+refusal-told (MultifunctionOperand a b) e = refl
+refusal-told (DuplicateDestination a) e = refl
+refusal-told LoopCountZero e = refl
+refusal-told (LoopOutOfRange a) e = refl
+refusal-told EmptyLoop e = refl
+refusal-told UnclosedLoop e = refl
+refusal-told UnmatchedLoopEnd e = refl
+refusal-told SharedLoopEnd e = refl
+refusal-told (LoopTailNotFullWidth a) e = refl
+refusal-told BranchInLoop e = refl
+refusal-told (LabelInLoop a b) e = refl
+refusal-told (NoRoomForParcels a) e = refl
+refusal-told (NoRoomForLabels a) e = refl
+refusal-told (NoRoomForJumps a) e = refl
+refusal-told (NoRoomForLoops a) e = refl
+refusal-told (BrokenSlot a) e = refl
+refusal-told (NoRoomForBytes a) e = absurd (true≢false e)
+
+below : (r : Refusal) → toldOf r .number < 34 → eqb (toldOf r .number) 34 ≡ false
+below r h = ne-eqb (toldOf r .number) 34 (λ (e : toldOf r .number ≡ 34). omega arith)
+
+over-zero : (r : Refusal) → eqb (toldOf r .number) 0 ≡ false
+over-zero r = let h = numbered r .over in ne-eqb (toldOf r .number) 0 (λ (e : toldOf r .number ≡ 0). omega arith)
+
+abbrev pub answerFrom : Told → Answer
+answerFrom t = cond (eqb (t .number) 0) (answer.Accepted (t .count)) (answer.Refused (refusalFrom t))
+
+pub answer-told : (a : Answer) → answered a .number < 34 → answerFrom (answered a) ≡ a
+answer-told (answer.Accepted n) h = refl
+answer-told (answer.Refused r) h = rw (over-zero r) (ap answer.Refused (refusal-told r (below r h)))
+
+-- two refusals, or two answers, that tell the same are the same; 34 apart, whose detail has a largest value
+pub refusals-apart : (r r′ : Refusal) → toldOf r .number < 34 → toldOf r ≡ toldOf r′ → r ≡ r′
+refusals-apart r r′ h e =
+    sym (refusal-told r (below r h))
+    ∙ ap refusalFrom e
+    ∙ refusal-told r′ (below r′ (subst (λ (t : Told). t .number < 34) e h))
+
+pub answers-apart : (a a′ : Answer) → answered a .number < 34 → answered a ≡ answered a′ → a ≡ a′
+answers-apart a a′ h e = sym (answer-told a h) ∙ ap answerFrom e ∙ answer-told a′ (subst (λ (t : Told). t .number < 34) e h)

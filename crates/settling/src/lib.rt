@@ -1,0 +1,111 @@
+// The end of a build: each waiting jump gets the word to its label, in item order; a refusal leaves zeros.
+pub mod wipes;
+
+ghost use mathlib.Core.Path.{_≡_};
+ghost use Prim.Native.Nat.{_+_, _≤_};
+ghost use lib.ListN.{length};
+ghost use lib.Seq.{sets};
+ghost use Rattle.encode.specs.Encoding.{formVerdict};
+ghost use Rattle.places.specs.Items.{rowAt, rowsIn, mostParcels};
+ghost use Rattle.refusals.specs.Order.{ifGood};
+ghost use Rattle.encode.specs.Encoding.{settled};
+ghost use Rattle.tables.specs.Tables.{lookup};
+ghost use Rattle.refusals.specs.Scan.{Came};
+ghost use Rattle.coded.specs.Fine.{CodedFine};
+ghost use Rattle.settling.specs.Settling.{aimForm, aimChk, aimed, Settles, waitChk, waited, AimFine, AimsFine};
+use coded::Coded;
+use items::Condition;
+use places::JUMP_WIDTH;
+use refusals::Refusal;
+use refusals::Verdict;
+use tables::Sought;
+
+// The word of a jump at place p to address q stands there, if it encodes.
+fn settle(condition: Condition, p: usize, q: u32, parcels: &mut [u16]) -> Verdict
+    requires { ⌜ (p + 3 ≤ length (now parcels)) × (p ≤ mostParcels) ⌝ }
+    ensures { λ r. ⌜ (r ≡ formVerdict (aimForm condition p q)) × (now (parcels .exit) ≡ ifGood r (sets (now (parcels .entry)) p (settled (aimForm condition p q))) (now (parcels .entry))) ⌝ }
+{
+    let form = encode::jump_form(condition, signs::apart(tables::wide(q), p), false);
+    let encodes = encode::form_verdict(form);
+    match encodes {
+        Verdict::Refused(r) => {
+            return Verdict::Refused(r);
+        }
+        Verdict::Good => {}
+    }
+    writer::mend(parcels, p, p, encode::settled(form));
+    Verdict::Good
+}
+
+// The jump at place p to a name: 12 before 9, or its word stands there.
+fn aim_one(
+    condition: Condition,
+    start: u32,
+    len: u32,
+    names: &[u8],
+    parcels: &mut [u16],
+    labels: &[u32],
+    n: usize,
+    p: usize,
+) -> Verdict
+    requires { ⌜ (AimFine (now names) (now labels) n p (length (now parcels))) × (start + len ≤ length (now names)) ⌝ }
+    ensures { λ r. ⌜ (r ≡ aimChk condition p start len (lookup (now (names .entry)) (now (labels .entry)) start len n 0)) × (now (parcels .exit) ≡ ifGood r (aimed condition p (lookup (now (names .entry)) (now (labels .entry)) start len n 0) (now (parcels .entry))) (now (parcels .entry))) ⌝ }
+{
+    let found = tables::names::find(names, labels, n, start as usize, len as usize);
+    match found {
+        Sought::At(q) => settle(condition, p, q, parcels),
+        Sought::Nowhere => Verdict::Refused(Refusal::UndefinedLabel(start, len)),
+    }
+}
+
+// A waiting jump's row at place p.
+fn aim_coded(
+    coded: Coded,
+    names: &[u8],
+    parcels: &mut [u16],
+    labels: &[u32],
+    n: usize,
+    p: usize,
+) -> Verdict
+    requires { ⌜ (AimFine (now names) (now labels) n p (length (now parcels))) × CodedFine (length (now names)) coded ⌝ }
+    ensures { λ r. ⌜ Settles (now (names .entry)) (now (labels .entry)) n p coded (now (parcels .entry)) r (now (parcels .exit)) ⌝ }
+{
+    match coded {
+        Coded::Jump {
+            condition,
+            start,
+            length,
+        } => aim_one(condition, start, length, names, parcels, labels, n, p),
+        _ => Verdict::Good,
+    }
+}
+
+// The waiting jumps in turn, up to the first that is refused.
+pub fn aim_all(
+    rows: &[u32],
+    names: &[u8],
+    parcels: &mut [u16],
+    labels: &[u32],
+    n: usize,
+    jumps: &[u32],
+    count: usize,
+) -> Verdict
+    requires { ⌜ AimsFine (now names) (now labels) n (now jumps) (rowsIn (now rows)) count (length (now parcels)) ⌝ }
+    ensures { λ r. ⌜ Came (waitChk (now (names .entry)) (rowAt (now (rows .entry)) (now (names .entry))) (now (labels .entry)) n (now (jumps .entry))) (waited (now (names .entry)) (rowAt (now (rows .entry)) (now (names .entry))) (now (labels .entry)) n (now (jumps .entry))) (now (parcels .entry)) count r (now (parcels .exit)) ⌝ }
+{
+    let mut k = 0;
+    while k < count {
+        let p = tables::wide(jumps[JUMP_WIDTH * k]);
+        let row = tables::wide(jumps[JUMP_WIDTH * k + 1]);
+        let coded = coded::coded_at(rows, row, names.len());
+        let one = aim_coded(coded, names, parcels, labels, n, p);
+        match one {
+            Verdict::Refused(r) => {
+                return Verdict::Refused(r);
+            }
+            Verdict::Good => {}
+        }
+        k += 1;
+    }
+    Verdict::Good
+}

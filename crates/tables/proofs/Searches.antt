@@ -1,0 +1,59 @@
+-- A comparison comes to what its first bytes come to, once the last ones are the same; a search that has passed k entries
+-- without an answer comes to what the search from entry k on comes to.
+use mathlib.Core.Path.{_≡_, refl, ap, _∙_}
+use mathlib.Core.Bool.{Bool, true, false, _&&_}
+use mathlib.Core.List.{List}
+use Prim.Native.Nat.{ℕ, zero, suc, _+_, _-_, _*_, _<_}
+use native.Mathlib.Omega.{arith}
+use native.Mathlib.Nat.{add-zero}
+use native.Mathlib.Numerals.{add-one}
+use lib.Dec.{eqb}
+use lib.ListN.{length, getD}
+use borrow.Author.Tests.{eq-eqb, ne-eqb}
+use Rattle.places.specs.Looking.{sameFrom}
+use Rattle.tables.specs.Tables.{entryIs, lookup}
+use Rattle.tables.specs.declared.Sought.the-variants.{At}
+
+peel : (n k : ℕ) → k < n → n - k ≡ suc (n - (k + 1))
+peel n k h = omega arith
+
+up : (a k : ℕ) → a + suc k ≡ suc a + k
+up a k = omega arith
+
+less : (k : ℕ) → 0 < k → k ≡ suc (k - 1)
+less k h = omega arith
+
+-- the last byte of k + 1
+last-same : (ns : List ℕ) (k a b : ℕ) → getD ns (a + k) 0 ≡ getD ns (b + k) 0 → sameFrom ns (suc k) a b ≡ sameFrom ns k a b
+last-same ns zero a b e = rw (eq-eqb _ _ (rw (add-zero, add-zero) at e))
+last-same ns (suc k) a b e = ap (λ t. eqb (getD ns a 0) (getD ns b 0) && t) (last-same ns k (suc a) (suc b) (rw (up a k, up b k) at e))
+
+both-false : (t : Bool) {u : Bool} → u ≡ false → (t && u) ≡ false
+both-false true e = e
+both-false false e = refl
+
+last-other : (ns : List ℕ) (k a b : ℕ) → (getD ns (a + k) 0 ≡ getD ns (b + k) 0 → ⊥) → sameFrom ns (suc k) a b ≡ false
+last-other ns zero a b e = rw (ne-eqb _ _ (rw (add-zero, add-zero) at e))
+last-other ns (suc k) a b e = both-false (eqb (getD ns a 0) (getD ns b 0)) (last-other ns k (suc a) (suc b) (rw (up a k, up b k) at e))
+
+module _ (ns : List ℕ) (a b k : ℕ) (more : 0 < k) where
+  pub same-more : getD ns (a + (k - 1)) 0 ≡ getD ns (b + (k - 1)) 0 → sameFrom ns k a b ≡ sameFrom ns (k - 1) a b
+  same-more e = ap (λ n. sameFrom ns n a b) (less k more) ∙ last-same ns (k - 1) a b e
+
+  pub same-less : (getD ns (a + (k - 1)) 0 ≡ getD ns (b + (k - 1)) 0 → ⊥) → sameFrom ns k a b ≡ false
+  same-less e = ap (λ n. sameFrom ns n a b) (less k more) ∙ last-other ns (k - 1) a b e
+
+module _ (ns ls : List ℕ) (a b n k : ℕ) (more : k < n) where
+  pub find-hit : entryIs ns ls a b k ≡ true → lookup ns ls a b (n - k) k ≡ At (getD ls (3 * k + 2) 0)
+  find-hit e = rw (peel n k more, e)
+
+  pub find-more : entryIs ns ls a b k ≡ false → lookup ns ls a b (n - k) k ≡ lookup ns ls a b (n - (k + 1)) (k + 1)
+  find-more e = rw (peel n k more, e, add-one)
+
+-- an entry of another length; one of the same
+module _ (ns ls : List ℕ) (a b k x : ℕ) (long : x ≡ getD ls (3 * k + 1) 0) where
+  pub entry-no : (x ≡ b → ⊥) → false ≡ entryIs ns ls a b k
+  entry-no q = rw (← long, ne-eqb _ _ q)
+
+  pub entry-yes : (y : ℕ) (r : Bool) → x ≡ b → y ≡ getD ls (3 * k) 0 → r ≡ sameFrom ns b y a → r ≡ entryIs ns ls a b k
+  entry-yes y r q s t = rw (← long, eq-eqb _ _ q, ← s) t

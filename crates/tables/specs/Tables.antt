@@ -1,0 +1,31 @@
+-- An instrument of the build's proof: the label table searched by name, and the front of a table wiped.
+use mathlib.Core.Bool.{Bool, true, false, cond, _&&_}
+use mathlib.Core.List.{List, _++_}
+use Prim.Native.Nat.{ℕ, zero, suc, _+_, _*_, _≤_, _<_}
+use lib.ListN.{length, getD, drop, replicate}
+use lib.Dec.{eqb}
+use Rattle.places.specs.Items.{labelWidth}
+use Rattle.places.specs.Looking.{sameFrom}
+use Rattle.tables.specs.declared.Sought.{Sought}
+use Rattle.tables.specs.declared.Sought.the-variants.{At, Nowhere}
+
+-- label entry k of the table has the name at start of length len
+abbrev pub entryIs : List ℕ → List ℕ → ℕ → ℕ → ℕ → Bool
+entryIs ns ls start len k = eqb (getD ls (labelWidth * k + 1) 0) len && sameFrom ns len (getD ls (labelWidth * k) 0) start
+
+-- the address of the first of n entries from the k-th on that has the name
+abbrev pub lookup : List ℕ → List ℕ → ℕ → ℕ → ℕ → ℕ → Sought
+lookup ns ls start len zero k = Nowhere
+lookup ns ls start len (suc n) k = cond (entryIs ns ls start len k) (At (getD ls (labelWidth * k + 2) 0)) (lookup ns ls start len n (suc k))
+
+abbrev pub isThere : Sought → Bool
+isThere (At p) = true
+isThere Nowhere = false
+
+-- the first n entries name ranges of the names
+abbrev pub Entries : List ℕ → List ℕ → ℕ → Type 0
+Entries ns ls n = (k : ℕ) → k < n → getD ls (labelWidth * k) 0 + getD ls (labelWidth * k + 1) 0 ≤ length ns
+
+-- zeros in the first n numbers
+abbrev pub zeroed : ℕ → List ℕ → List ℕ
+zeroed n l = replicate n 0 ++ drop n l

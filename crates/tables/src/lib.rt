@@ -1,0 +1,57 @@
+// The lent tables: label entries found by name, runs of numbers stored, and wiped.
+pub mod names;
+
+ghost use mathlib.Core.Path.{_≡_};
+ghost use Prim.Native.Nat.{_+_, _≤_};
+ghost use lib.ListN.{length, take};
+ghost use lib.Seq.{sets};
+ghost use Rattle.tables.specs.Tables.{zeroed};
+
+// The address of a label, if there is one.
+pub enum Sought {
+    At(u32),
+    Nowhere,
+}
+
+// A number of a table, to count with.
+pub fn wide(x: u32) -> usize
+    ensures { λ r. ⌜ r ≡ x ⌝ }
+{
+    x as usize
+}
+
+// The first n of four numbers stand in a table from `at` on.
+pub fn store(table: &mut [u32], at: usize, values: [u32; 4], n: usize)
+    requires { ⌜ (n ≤ 4) × (at + n ≤ length (now table)) ⌝ }
+    ensures { λ _. ⌜ now (table .exit) ≡ sets (now (table .entry)) at (take n values) ⌝ }
+{
+    let mut k = 0;
+    while k < n {
+        table[at + k] = values[k];
+        k += 1;
+    }
+}
+
+// The first n parcels are zero.
+pub fn wipe16(parcels: &mut [u16], n: usize)
+    requires { ⌜ n ≤ length (now parcels) ⌝ }
+    ensures { λ _. ⌜ now (parcels .exit) ≡ zeroed n (now (parcels .entry)) ⌝ }
+{
+    let mut i = 0;
+    while i < n {
+        parcels[i] = 0;
+        i += 1;
+    }
+}
+
+// The first n numbers of a table are zero.
+pub fn wipe32(table: &mut [u32], n: usize)
+    requires { ⌜ n ≤ length (now table) ⌝ }
+    ensures { λ _. ⌜ now (table .exit) ≡ zeroed n (now (table .entry)) ⌝ }
+{
+    let mut i = 0;
+    while i < n {
+        table[i] = 0;
+        i += 1;
+    }
+}

@@ -1,0 +1,7 @@
+pub mod Walk
+pub mod Again
+pub mod Shared
+pub mod Local
+pub mod Plain
+pub mod Parts
+pub mod Lent
