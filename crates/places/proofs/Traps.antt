@@ -23,8 +23,7 @@ pub zero-count-told-at-the-end :
 unfolding fields compute boundsOf said placesOf checkOf madeMulti madeSingle inDag layoutOf jumpForm loopForm formOf parcelsOf verdictOf conditionOf modeOf aluOpOf countOf scalars transfers others instructionOf computeOf itemOf readOf
 zero-count-told-at-the-end = (refl, refl, refl)
 
--- "A tail rule that .. reports the earliest short one": of two the later is told, by its parcel; "skips nested loop starts": a nested start is one
--- of the last 11, so the Nop before ten WideNops and a nested loop of one is the thirteenth from the end
+-- "A tail rule that .. reports the earliest short one": of two Nops in a body the later is told, by its parcel
 pub latest-short-told : Refuses ((50 ∷ 0 ∷ 1 ∷ 0 ∷ []) ∷ (38 ∷ []) ∷ (38 ∷ []) ∷ (51 ∷ []) ∷ []) (one 26 (pos 4))
 unfolding fields compute boundsOf said placesOf checkOf madeMulti madeSingle inDag layoutOf jumpForm loopForm formOf parcelsOf verdictOf conditionOf modeOf aluOpOf countOf scalars transfers others instructionOf computeOf itemOf readOf
 latest-short-told = refl
