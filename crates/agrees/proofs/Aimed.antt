@@ -12,14 +12,14 @@ use lib.Dec.{ltb}
 use borrow.Author.Tests.{lt-ltb, le-ltb}
 use Rattle.items.specs.declared.Condition.{Condition}
 use Rattle.coded.specs.declared.Coded.the-variants.{Instruction, Label, Jump, LoopBegin, LoopEnd}
-use Rattle.encode.specs.Encoding.{jumpForm}
+use Rattle.encode.specs.Encoding.{jumpForm, settled}
 use Rattle.coded.specs.declared.Coded.{Coded}
 use Rattle.coded.specs.declared.Coded.the-variants as coded
 use Rattle.places.specs.Items.{size, isJump, total, place}
 use Rattle.places.specs.Left.{Lent, jumpParcels, left, gather}
 use Rattle.places.specs.Looking.{Found, at, nothing, labelled, closer}
 use Rattle.places.specs.Verdict.{jumpOffset}
-use Rattle.encode.specs.Encoding.{settled}
+use Rattle.places.proofs.Emitted.{settled-three}
 use Rattle.prefixes.proofs.Tests.{order, same-row}
 use Rattle.prefixes.proofs.Totals.{total-up}
 use Rattle.coded.specs.Fine.{CodedFine}
@@ -30,7 +30,7 @@ use Rattle.agrees.proofs.Stores.{gather-eq, gather-length, gather-patch
 use Rattle.agrees.proofs.Fits.{Fits}
 use Rattle.agrees.proofs.Tables.{jump-row}
 use Rattle.agrees.proofs.Names.{placed}
-use Rattle.agrees.proofs.Parcels.{settled-length, words, words-length, parts, parcels-are}
+use Rattle.agrees.proofs.Parcels.{words, words-length, parts, parcels-are}
 use Rattle.agrees.proofs.Aims.{settles, jumpsAt, settle-is}
 
 pick-same : (t : Bool) (x y : List ℕ) → x ≡ y → cond t x y ≡ y
@@ -43,7 +43,7 @@ module _ (names : List ℕ) (it : ℕ → Coded) (n : ℕ) where
   final q = left names it n q (it q) .parcels
 
   jump-length : (c : Condition) (q : ℕ) (f : Found) → length (jumpParcels it c q f) ≡ 3
-  jump-length c q (at label) = settled-length (jumpForm c (jumpOffset it label q) false)
+  jump-length c q (at label) = settled-three (jumpForm c (jumpOffset it label q) false)
   jump-length c q nothing = refl
 
   left-length : (q : ℕ) (x : Coded) → length (left names it n q x .parcels) ≡ size x
@@ -106,7 +106,7 @@ module _ (names : List ℕ) (it : ℕ → Coded) (n : ℕ) where
     unfolding aimForm
     settle h rest (at label) e =
         let new : stage (suc q) r ≡ settled (jumpForm (y .condition) (jumpOffset it label r) false) = settled-there ∙ ap (jumpParcels it (y .condition) r) e in
-        let ln : length (stage (suc q) r) ≡ length (stage q r) = ap length new ∙ settled-length (jumpForm (y .condition) (jumpOffset it label r) false) ∙ sym (ap length waits-there) in
+        let ln : length (stage (suc q) r) ≡ length (stage q r) = ap length new ∙ settled-three (jumpForm (y .condition) (jumpOffset it label r) false) ∙ sym (ap length waits-there) in
         ap (sets (gather (stage q) n ++ rest) (place it r)) (sym new) ∙ gather-patch (stage q) (stage (suc q)) rest n r (place it r) h (stage-length q r) ln (λ x u. other x)
     settle h rest nothing e =
         let same : stage q r ≡ stage (suc q) r = waits-there ∙ sym (settled-there ∙ ap (jumpParcels it (y .condition) r) e) in

@@ -17,7 +17,7 @@ use Rattle.places.specs.Left.{Lent}
 use Rattle.places.specs.Looking.{Found, at, nothing, labelled}
 use Rattle.places.specs.Verdict.{reach, reaches}
 use Rattle.prefixes.proofs.Tests.{order}
-use Rattle.prefixes.proofs.Verdicts.{refused-good, StopsAt, AllPass, either, all-first, stop-first}
+use Rattle.refusals.proofs.Order.{refused-good, StopsAt, AllPass, either, all-first, stop-first}
 use Rattle.prefixes.proofs.Totals.{total-up}
 use Rattle.machine.specs.declared.State.{State}
 use Rattle.tables.specs.declared.Sought.{Sought}

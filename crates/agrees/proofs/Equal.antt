@@ -21,7 +21,7 @@ use Rattle.places.specs.Left.{lentOf, outcome, Lent, roomsIn, gather, put, zero
 use Rattle.refusals.specs.Numbers.{answerOf}
 use Rattle.places.specs.Verdict.{kernel, reaches, verdictAt}
 use Rattle.places.specs.Looking.{deepest}
-use Rattle.prefixes.proofs.Verdicts.{StopsAt, AllPass, either, all-first, all-passing, stop-first, stop-passing}
+use Rattle.refusals.proofs.Order.{StopsAt, AllPass, either, all-first, all-passing, stop-first, stop-passing}
 use Rattle.machine.specs.declared.State.{State}
 use Rattle.machine.specs.Machine.{Mem, memOf, check, Rooming}
 use Rattle.coded.specs.Fine.{CodedFine}

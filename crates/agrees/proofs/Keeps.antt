@@ -20,7 +20,7 @@ use Rattle.places.specs.declared.OpenLoop.{OpenLoop}
 use Rattle.places.specs.Items.{sizeOf, addressOf, roomsOf}
 use Rattle.places.specs.Left.{Lent, zeroLoop}
 use Rattle.encode.specs.Encoding.{settled}
-use Rattle.prefixes.proofs.Verdicts.{refused-good}
+use Rattle.refusals.proofs.Order.{refused-good}
 use Rattle.machine.specs.declared.State.{State}
 use Rattle.machine.specs.Machine.{Mem, memOf, check, next, topOf, topForm, beginRecord, endNext, Starts, Rooming, GoodFor}
 use Rattle.places.specs.Left.{zeros}

@@ -13,15 +13,14 @@ use Rattle.coded.specs.declared.Coded.the-variants.{Instruction, Label, Jump, L
 use Rattle.items.specs.declared.LoopCount.{LoopCount}
 use Rattle.items.specs.declared.LoopMode.{LoopMode}
 use Rattle.encode.specs.declared.Form.{Form}
-use Rattle.encode.specs.declared.Form.the-variants as form
-use Rattle.encode.specs.Encoding.{formParcels, loopForm}
+use Rattle.encode.specs.Encoding.{formParcels, loopForm, settled}
 use Rattle.coded.specs.declared.Coded.{Coded}
 use Rattle.coded.specs.declared.Coded.the-variants as coded
 use Rattle.places.specs.declared.OpenLoop.{OpenLoop}
 use Rattle.places.specs.Items.{about, size, place, nest}
 use Rattle.places.specs.Left.{Lent, loopParcels, gather}
 use Rattle.places.specs.Looking.{Found, at, nothing, latest, opener, closer}
-use Rattle.encode.specs.Encoding.{settled}
+use Rattle.places.proofs.Emitted.{settled-three}
 use Rattle.places.specs.Verdict.{loopOffset, loopRow}
 use Rattle.prefixes.proofs.Tests.{and-second}
 use Rattle.machine.specs.declared.State.{State}
@@ -32,13 +31,6 @@ use Rattle.agrees.proofs.Stores.{sets-at, gather-eq, gather-length, gat
 use Rattle.agrees.proofs.Prefix.{mem, state-is}
 use Rattle.agrees.proofs.Fits.{Fits, fits-less}
 use Rattle.agrees.proofs.Tops.{Opener, opener-at, top-is, top-form}
-
-pub settled-length : (f : Form) → length (settled f) ≡ 3
-settled-length (form.Word w) = refl
-settled-length (form.Short w) = refl
-settled-length (form.Pair w) = refl
-settled-length form.Leaf = refl
-settled-length (form.Refused r) = refl
 
 module _ (names : List ℕ) (it : ℕ → Coded) where
   -- the parcels of row q, a loop that ends as said, while jumps wait
@@ -51,7 +43,7 @@ module _ (names : List ℕ) (it : ℕ → Coded) where
   words e q (coded.Refused why) = []
 
   loop-length : (c : LoopCount) (m : LoopMode) (q : ℕ) (e : Found) → length (loopParcels it c m q e) ≡ 3
-  loop-length c m q (at e) = settled-length (loopForm c m (loopOffset it e q))
+  loop-length c m q (at e) = settled-three (loopForm c m (loopOffset it e q))
   loop-length c m q nothing = refl
 
   pub words-length : (e : Found) (q : ℕ) (x : Coded) → length (words e q x) ≡ size x

@@ -11,7 +11,7 @@ use Rattle.coded.specs.declared.Coded.the-variants.{Instruction, Label, Jump, L
 use Rattle.coded.specs.declared.Coded.{Coded}
 use Rattle.coded.specs.declared.Coded.the-variants as coded
 use Rattle.places.specs.declared.Rooms.{Rooms}
-use Rattle.places.specs.Items.{sizeOf, address, isEnd, isShort, oneIf, Traits, about, isLabel, isJump, total, place, addressOf, entries, nest}
+use Rattle.places.specs.Items.{sizeOf, address, isEnd, isShort, Traits, about, isLabel, isJump, total, place, addressOf, entries, nest}
 use Rattle.places.specs.Left.{Lent}
 use Rattle.places.specs.Looking.{latest, lastAt}
 use Rattle.machine.specs.declared.State.{State}
@@ -37,7 +37,7 @@ none n = omega arith
 level : (n : ℕ) → n ≡ n + 0 - 0
 level n = omega arith
 
-by-size : (t : Bool) (a b : ℕ) → cond t a b ≡ cond (eqb (oneIf (not t)) 1) b a
+by-size : (t : Bool) (a b : ℕ) → cond t a b ≡ cond (eqb (cond t 0 1) 1) b a
 by-size true a b = refl
 by-size false a b = refl
 

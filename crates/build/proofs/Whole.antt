@@ -18,7 +18,7 @@ use Rattle.places.specs.Items.{rowAt, rowsIn, roomsOf}
 use Rattle.refusals.specs.Order.{orElse}
 use Rattle.places.specs.Left.{Lent, lentOf, kernelOf, roomsIn, Outcome, outcome, built, buildOf, Builds}
 use Rattle.refusals.specs.Numbers.{answered}
-use Rattle.prefixes.proofs.Verdicts.{refused-good, orElse-good}
+use Rattle.refusals.proofs.Order.{refused-good, orElse-good}
 use Rattle.machine.specs.Machine.{Mem, memOf, Rooming}
 use Rattle.refusals.specs.Scan.{scan-all, scan-end}
 use Rattle.machine.specs.Fold.{rowChk, zeroState, rowNext, rowsVerdict, rowsMem}

@@ -1,4 +1,4 @@
--- Document 01, "Field tables": the compute word (2a), the twelve single computes, and the multifunction.
+-- Document 01, "Field tables": the 23 bits of a compute word: the twelve single computes, and the multifunction.
 use Prim.Native.Nat.{ℕ, _/_, _%_}
 use mathlib.Core.Bool.{not}
 use mathlib.Core.List.{List, [], _∷_}
@@ -22,10 +22,6 @@ use Rattle.items.specs.declared.VisaInstruction.the-variants as Visa
 use Rattle.computes.specs.declared.SingleCompute.the-variants as S
 use Rattle.computes.specs.declared.Made.the-variants as M
 
--- "Compute word (2a): bit 40, 11111 in 37:33, field in 22:0"
-abbrev pub type2a : List Field → List Field
-type2a compute = fixed 47 41 0 ∷ fixed 40 40 1 ∷ fixed 39 38 0 ∷ fixed 37 33 0b11111 ∷ fixed 32 23 0 ∷ compute
-
 -- "Single: unit 21:20, opcode 19:12, rn 11:8, rx 7:4, ry 3:0"
 abbrev pub single : ℕ → ℕ → ℕ → ℕ → ℕ → List Field
 single unit opcode rn rx ry = fixed 22 22 0 ∷ fixed 21 20 unit ∷ fixed 19 12 opcode ∷ operand 11 8 rn ∷ operand 7 4 rx ∷ operand 3 0 ry ∷ []
@@ -35,10 +31,6 @@ abbrev pub multi : ℕ → ℕ → ℕ → ℕ → ℕ → ℕ → ℕ → List 
 multi opcode product destination mulX mulY aluX aluY =
     fixed 22 22 1 ∷ fixed 21 16 opcode ∷ operand 15 12 product ∷ operand 11 8 destination
     ∷ operand 7 6 mulX ∷ operand 5 4 mulY ∷ operand 3 2 aluX ∷ operand 1 0 aluY ∷ []
-
--- a compute's 23 bits as one number
-abbrev pub whole : ℕ → List Field
-whole field = operand 22 0 field ∷ []
 
 -- with two inputs; "Unary forms have ry 0"; with no destination: "rn 0", and 16 for the register that is none
 abbrev pub binary : ℕ → ℕ → Register → Register → Register → SingleCompute

@@ -19,7 +19,7 @@ use Rattle.places.specs.declared.Rooms.{Rooms}
 use Rattle.places.specs.Items.{rowAt, rowsIn, place}
 use Rattle.places.specs.Verdict.{kernel, faults, verdictAt, verdict}
 use Rattle.places.specs.Left.{Lent, kernelOf, roomsIn, buildOf, Builds}
-use Rattle.prefixes.proofs.Verdicts.{orElse-good, first-good, first-all, all-first}
+use Rattle.refusals.proofs.Order.{orElse-good, first-good, first-all, all-first}
 use Rattle.counts.specs.declared.Counting.the-variants.{Parcels}
 use Rattle.counts.specs.Counts.{rowVerdict, countOf, Counts}
 use Rattle.counts.proofs.Tally.{answer-good}

@@ -18,16 +18,12 @@ use Rattle.coded.specs.declared.Coded.{Coded}
 use Rattle.coded.specs.Coded.{readVerdict, encodes}
 use Rattle.coded.proofs.Numbers.{row-tells, encodes-tells}
 use Rattle.places.specs.Items.{rowAt, rowsIn, total}
-use Rattle.prefixes.proofs.Verdicts.{orElse-good, when-good, first-all, all-first}
+use Rattle.refusals.proofs.Order.{orElse-good, when-good, first-all, all-first}
 use Rattle.counts.specs.declared.Counting.{Counting}
 use Rattle.counts.specs.declared.Counting.the-variants.{Parcels, Instructions}
-use Rattle.counts.specs.Counts.{rowVerdict, amount, listVerdict, Counts, numbersFor}
+use Rattle.counts.specs.Counts.{rowVerdict, amount, listVerdict, Passes, Counts, numbersFor}
 
 -- ---- the list's verdict is good exactly where the list is well formed and every row passes
-pub record Passes (f : Coded → Verdict) (rows names : List ℕ) : Type 0 where
-  pub formed : wellFormed (length rows) ≡ true
-  pub each : (i : ℕ) → i < rowsIn rows → f (rowAt rows names i) ≡ Good
-
 not-true : (b : Bool) → not b ≡ false → b ≡ true
 not-true true e = refl
 not-true false e = absurd (true≢false e)

@@ -16,7 +16,7 @@ use Rattle.encode.proofs.Sizes.{form-few}
 use Rattle.coded.specs.declared.Coded.{Coded}
 use Rattle.coded.specs.declared.Coded.the-variants as coded
 use Rattle.places.specs.Items.{total}
-use Rattle.prefixes.proofs.Verdicts.{AllPass, all-first, stop-first}
+use Rattle.refusals.proofs.Order.{AllPass, all-first, stop-first}
 use Rattle.counts.specs.declared.Counting.{Counting}
 use Rattle.counts.specs.declared.Counting.the-variants.{Parcels, Instructions}
 use Rattle.counts.specs.Counts.{rowVerdict, amount}

@@ -1,11 +1,12 @@
 -- Document 01, "Also public": "the parcel count and the instruction count of a list".
 use mathlib.Core.Path.{_≡_}
-use mathlib.Core.Bool.{not}
+use mathlib.Core.Bool.{true, not}
 use mathlib.Core.List.{List, _∷_, _++_}
-use Prim.Native.Nat.{ℕ}
+use Prim.Native.Nat.{ℕ, _<_}
 use lib.ListN.{length}
 use Rattle.refusals.specs.declared.Refusal.the-variants.{RowSlice}
 use Rattle.refusals.specs.declared.Verdict.{Verdict}
+use Rattle.refusals.specs.declared.Verdict.the-variants.{Good}
 use Rattle.refusals.specs.declared.Answer.{Answer}
 use Rattle.refusals.specs.declared.Told.{Told}
 use Rattle.refusals.specs.Numbers.{answerOf, answered, reading, encoding}
@@ -31,6 +32,11 @@ amount Instructions x = ofInstruction (λ y. issued (y .kind)) (isEntry x) x
 -- "1; then rows in turn"
 abbrev pub listVerdict : (Coded → Verdict) → List ℕ → List ℕ → Verdict
 listVerdict f rows names = orElse (when (not (wellFormed (length rows))) RowSlice) (firstOf (λ i. f (rowAt rows names i)) (rowsIn rows))
+
+-- that it is good: the list is well formed and every row passes
+pub record Passes (f : Coded → Verdict) (rows names : List ℕ) : Type 0 where
+  pub formed : wellFormed (length rows) ≡ true
+  pub each : (i : ℕ) → i < rowsIn rows → f (rowAt rows names i) ≡ Good
 
 -- the count of a list: over all its rows
 abbrev pub countOf : Counting → List ℕ → List ℕ → Answer

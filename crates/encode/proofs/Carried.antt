@@ -21,18 +21,19 @@ use Rattle.words.proofs.Tiling.{tiles-8a, tiles-12a, tiles-12a-register}
 use Rattle.encode.specs.declared.Form.the-variants.{Word}
 use Rattle.encode.specs.Layouts.{jumpLayout, loopLayout}
 use Rattle.encode.specs.Encoding.{formVerdict, jumpForm, loopForm}
-use Rattle.encode.proofs.Passed.{test-failed, good-passed, good-word}
+use Rattle.refusals.proofs.Order.{when-good}
+use Rattle.encode.proofs.Passed.{good-passed, good-word}
 use Rattle.encode.proofs.Fitting.{bit-small, code-small, tested-fits}
 
 -- ---- the offset was tested
 jump-within : (c : Condition) (z : ℤ) (d : Bool) → formVerdict (jumpForm c z d) ≡ Good → within (negsuc 0x7f_ffff) (pos 0x7f_ffff) z ≡ true
 unfolding jumpForm
-jump-within c z d g = not-false _ (test-failed _ _ (good-passed (jumpLayout c z d) g .0))
+jump-within c z d g = not-false _ (when-good _ _ (good-passed (jumpLayout c z d) g .0))
 
 loop-within : (c : LoopCount) (m : LoopMode) (z : ℤ) → formVerdict (loopForm c m z) ≡ Good → within (negsuc 0x3f_ffff) (pos 0x3f_ffff) z ≡ true
 unfolding loopForm
-loop-within (Immediate n) m z g = not-false _ (test-failed _ _ (good-passed (loopLayout (Immediate n) m z) g .0))
-loop-within (Register r) m z g = not-false _ (test-failed _ _ (good-passed (loopLayout (Register r) m z) g .0))
+loop-within (Immediate n) m z g = not-false _ (when-good _ _ (good-passed (loopLayout (Immediate n) m z) g .0))
+loop-within (Register r) m z g = not-false _ (when-good _ _ (good-passed (loopLayout (Register r) m z) g .0))
 
 -- ---- THE THEOREMS of jumps and loop starts
 pub jump-faithful : (c : Condition) (z : ℤ) (d : Bool) → formVerdict (jumpForm c z d) ≡ Good → Faithful 48 (jumpLayout c z d .fields)

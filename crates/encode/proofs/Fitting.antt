@@ -20,13 +20,15 @@ use Rattle.items.specs.declared.Instruction.{Instruction}
 use Rattle.items.specs.declared.VisaInstruction.{VisaInstruction}
 use Rattle.items.specs.declared.Instruction.the-variants as Scalar
 use Rattle.items.specs.declared.VisaInstruction.the-variants as Visa
+use Rattle.computes.specs.Compute.{single}
 use Rattle.computes.proofs.Ranged.{RangedScalar, RangedCompute, Ranged}
-use Rattle.words.specs.Forms.{bitOf, conditionCode, isStore, isPost, offset15b, offset15a}
-use Rattle.words.proofs.Tiling.{tiles-single, tiles-2a, tiles-17a, tiles-5a, tiles-19a, tiles-15a, tiles-8a, tiles-25a, tiles-16a, tiles-18a, tiles-1a, tiles-3a, tiles-21a, tiles-5b, tiles-3b, tiles-15b, tiles-3c, tiles-21c, tiles-leaf}
+use Rattle.words.specs.Forms.{bitOf, conditionCode, isStore, isPost, type2a, offset15b, offset15a}
+use Rattle.words.proofs.Tiling.{tiles-2a, tiles-17a, tiles-5a, tiles-19a, tiles-15a, tiles-8a, tiles-25a, tiles-16a, tiles-18a, tiles-1a, tiles-3a, tiles-21a, tiles-5b, tiles-3b, tiles-15b, tiles-3c, tiles-21c, tiles-leaf}
 use Rattle.encode.specs.Registers.{isPm}
 use Rattle.encode.specs.Layouts.{scalarFields, fieldOf, layoutOf}
 use Rattle.encode.specs.Encoding.{formOf, verdictOf}
-use Rattle.encode.proofs.Passed.{Passed, test-failed, good-passed}
+use Rattle.refusals.proofs.Order.{AllGood, when-good}
+use Rattle.encode.proofs.Passed.{good-passed}
 
 pub bit-small : (d : Bool) → bitOf d < 2
 bit-small true = omega arith
@@ -61,6 +63,9 @@ scalar-fits (Scalar.Move d s) h = omega arith
 scalar-fits (Scalar.LoadDm d a) h = omega arith
 scalar-fits (Scalar.StoreDm s a) h = omega arith
 
+tiles-single : (unit opcode rn rx ry : ℕ) → Tiles 48 (type2a (single unit opcode rn rx ry))
+tiles-single unit opcode rn rx ry = omega arith
+
 scalar-tiles : (i : Instruction) → Tiles 48 (scalarFields i)
 scalar-tiles (Scalar.FloatAdd d l r) = tiles-single 0 0 0 0 0
 scalar-tiles (Scalar.FloatSub d l r) = tiles-single 0 0 0 0 0
@@ -93,29 +98,29 @@ compute-fits Nothing h = omega arith
 compute-fits (Held k) h = h
 
 -- ---- every instruction
-pub fits : (v : VisaInstruction) → Ranged v → Passed (layoutOf v .refusals) → Fits (layoutOf v .fields)
+pub fits : (v : VisaInstruction) → Ranged v → AllGood (layoutOf v .refusals) → Fits (layoutOf v .fields)
 unfolding layoutOf
 fits (Visa.Scalar i) h p = scalar-fits i h
 fits (Visa.Transfer d s) h p = omega arith
 fits (Visa.LoadImmediate d v) h p = omega arith
 fits (Visa.ModifyIndex i z) h p = omega (arith, folded-fits 32 z (omega arith))
-fits (Visa.LoadDmPostModify r i m) h p = omega (arith, leb-false 8 (i .0) (test-failed _ _ (p .0)), leb-false 8 (m .0) (test-failed _ _ (p .1 .1 .0)), leb-false 16 (r .0) (test-failed _ _ (p .1 .1 .1 .0)))
-fits (Visa.StoreDmPostModify r i m) h p = omega (arith, leb-false 8 (i .0) (test-failed _ _ (p .0)), leb-false 8 (m .0) (test-failed _ _ (p .1 .1 .0)), leb-false 16 (r .0) (test-failed _ _ (p .1 .1 .1 .0)))
-fits (Visa.LoadDmPreModify r i m) h p = omega (arith, leb-false 8 (i .0) (test-failed _ _ (p .0)), leb-false 8 (m .0) (test-failed _ _ (p .1 .1 .0)))
-fits (Visa.StoreDmPreModify r i m) h p = omega (arith, leb-false 8 (i .0) (test-failed _ _ (p .0)), leb-false 8 (m .0) (test-failed _ _ (p .1 .1 .0)))
-fits (Visa.LoadDmOffset r i z) h p = offset-fits (r .0) (i .0) z false (within (negsuc 63) (pos 63) z) refl (omega (arith, h .0)) (leb-false 8 (i .0) (test-failed _ _ (p .0))) (h .2)
-fits (Visa.StoreDmOffset r i z) h p = offset-fits (r .0) (i .0) z true (within (negsuc 63) (pos 63) z) refl (omega (arith, h .0)) (leb-false 8 (i .0) (test-failed _ _ (p .0))) (h .2)
+fits (Visa.LoadDmPostModify r i m) h p = omega (arith, leb-false 8 (i .0) (when-good _ _ (p .0)), leb-false 8 (m .0) (when-good _ _ (p .1 .1 .0)), leb-false 16 (r .0) (when-good _ _ (p .1 .1 .1 .0)))
+fits (Visa.StoreDmPostModify r i m) h p = omega (arith, leb-false 8 (i .0) (when-good _ _ (p .0)), leb-false 8 (m .0) (when-good _ _ (p .1 .1 .0)), leb-false 16 (r .0) (when-good _ _ (p .1 .1 .1 .0)))
+fits (Visa.LoadDmPreModify r i m) h p = omega (arith, leb-false 8 (i .0) (when-good _ _ (p .0)), leb-false 8 (m .0) (when-good _ _ (p .1 .1 .0)))
+fits (Visa.StoreDmPreModify r i m) h p = omega (arith, leb-false 8 (i .0) (when-good _ _ (p .0)), leb-false 8 (m .0) (when-good _ _ (p .1 .1 .0)))
+fits (Visa.LoadDmOffset r i z) h p = offset-fits (r .0) (i .0) z false (within (negsuc 63) (pos 63) z) refl (omega (arith, h .0)) (leb-false 8 (i .0) (when-good _ _ (p .0))) (h .2)
+fits (Visa.StoreDmOffset r i z) h p = offset-fits (r .0) (i .0) z true (within (negsuc 63) (pos 63) z) refl (omega (arith, h .0)) (leb-false 8 (i .0) (when-good _ _ (p .0))) (h .2)
 fits (Visa.IntegerSubOne d s) h p = omega arith
 fits (Visa.IntegerPass d s) h p = omega arith
 fits (Visa.IntegerCompareUnsigned l r) h p = omega arith
-fits (Visa.JumpRelative c z d) h p = omega (arith, code-small c, bit-small d, tested-fits 24 0x7f_ffff z refl (not-false _ (test-failed _ _ (p .0))))
-fits (Visa.CJump t) h p = omega (arith, ltb-false _ t (test-failed _ _ (p .0)))
+fits (Visa.JumpRelative c z d) h p = omega (arith, code-small c, bit-small d, tested-fits 24 0x7f_ffff z refl (not-false _ (when-good _ _ (p .0))))
+fits (Visa.CJump t) h p = omega (arith, ltb-false _ t (when-good _ _ (p .0)))
 fits (Visa.PushImmediate v) h p = omega arith
 fits Visa.LeafReturn h p = omega arith
 fits (Visa.Compute k) h p = omega arith
 fits (Visa.DualMove k dm pm) h p =
-    let i = leb-false 8 (dm .index .0) (test-failed _ _ (p .0)) in
-    let m = leb-false 8 (dm .modifier .0) (test-failed _ _ (p .1 .0)) in
+    let i = leb-false 8 (dm .index .0) (when-good _ _ (p .0)) in
+    let m = leb-false 8 (dm .modifier .0) (when-good _ _ (p .1 .0)) in
     let a = h .1 in
     let b = h .2 in
     omega (arith, bit-small (isStore (dm .direction)), bit-small (isStore (pm .direction)), compute-fits k (h .0), i, m, a .0, b .0)

@@ -17,7 +17,8 @@ use Rattle.refusals.specs.declared.Verdict.the-variants.{Good}
 use Rattle.encode.specs.declared.Form.the-variants.{Word}
 use Rattle.encode.specs.Layouts.{jumpLayout, loopLayout}
 use Rattle.encode.specs.Encoding.{formVerdict, jumpForm, loopForm}
-use Rattle.encode.proofs.Passed.{test-failed, failed-test, good-passed, good-word, passed-good}
+use Rattle.refusals.proofs.Order.{when-good, good-when}
+use Rattle.encode.proofs.Passed.{good-passed, good-word, passed-good}
 
 -- ---- a difference of two places, from -(h + 1) to h
 and-true : (t : Bool) → (t && true) ≡ t
@@ -49,8 +50,8 @@ unfolding jumpForm
 jump-reach c a b d =
     let l = jumpLayout c (pos a -ℤ pos b) d in
     let w = within-apart 0x7f_ffff a b in (
-      (λ e. let r = w .0 (not-false _ (test-failed _ _ (good-passed l e .0))) in omega arith),
-      (λ r. passed-good l (failed-test _ _ (no-not _ (w .1 (omega arith))), tt)),
+      (λ e. let r = w .0 (not-false _ (when-good _ _ (good-passed l e .0))) in omega arith),
+      (λ r. passed-good l (good-when _ _ (no-not _ (w .1 (omega arith))), tt)),
     )
 
 pub jump-word : (c : Condition) (z : ℤ) (d : Bool) → formVerdict (jumpForm c z d) ≡ Good → (w : ℕ) × (jumpForm c z d ≡ Word w)
@@ -65,15 +66,15 @@ loop-reach (Immediate n) m a b =
     let w = within-apart 0x3f_ffff a b in (
       (λ e.
           let p = good-passed l e in
-          let r = w .0 (not-false _ (test-failed _ _ (p .0))) in
-          (omega arith, omega arith, λ z. eqb-false n 0 (test-failed _ _ (p .1 .0)) (let y : n ≡ 0 = cc in y))),
-      (λ r. passed-good l (failed-test _ _ (no-not _ (w .1 (let u = r .0 in let v = r .1 in omega arith))), (failed-test _ _ (ne-eqb n 0 (λ z. r .2 (rw z))), tt))),
+          let r = w .0 (not-false _ (when-good _ _ (p .0))) in
+          (omega arith, omega arith, λ z. eqb-false n 0 (when-good _ _ (p .1 .0)) (let y : n ≡ 0 = cc in y))),
+      (λ r. passed-good l (good-when _ _ (no-not _ (w .1 (let u = r .0 in let v = r .1 in omega arith))), (good-when _ _ (ne-eqb n 0 (λ z. r .2 (rw z))), tt))),
     )
 loop-reach (Register u) m a b =
     let l = loopLayout (Register u) m (pos a -ℤ pos b) in
     let w = within-apart 0x3f_ffff a b in (
-      (λ e. let r = w .0 (not-false _ (test-failed _ _ (good-passed l e .0))) in (omega arith, omega arith, λ z. let y : _≡_ {A = ℕ} 0 1 = cc in omega arith)),
-      (λ r. passed-good l (failed-test _ _ (no-not _ (w .1 (let u = r .0 in let v = r .1 in omega arith))), (refl, tt))),
+      (λ e. let r = w .0 (not-false _ (when-good _ _ (good-passed l e .0))) in (omega arith, omega arith, λ z. let y : _≡_ {A = ℕ} 0 1 = cc in omega arith)),
+      (λ r. passed-good l (good-when _ _ (no-not _ (w .1 (let u = r .0 in let v = r .1 in omega arith))), (refl, tt))),
     )
 
 pub loop-word : (c : LoopCount) (m : LoopMode) (z : ℤ) → formVerdict (loopForm c m z) ≡ Good → (w : ℕ) × (loopForm c m z ≡ Word w)

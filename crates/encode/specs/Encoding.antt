@@ -61,11 +61,7 @@ formVerdict (Refused refusal) = Is.Refused refusal
 
 -- the three parcels of a jump or a loop start, which waits as zeros
 abbrev pub settled : Form → List ℕ
-settled (Word word) = cut 3 word
-settled (Short word) = replicate 3 0
-settled (Pair word) = replicate 3 0
-settled Leaf = replicate 3 0
-settled (Refused refusal) = replicate 3 0
+settled f = cond (eqb (length (formParcels f)) 3) (formParcels f) (replicate 3 0)
 
 -- "count and six places, unused ones zero; refused: all zero"
 abbrev pub padded : List ℕ → List ℕ
@@ -75,12 +71,9 @@ padded parcels = parcels ++ replicate (6 - length parcels) 0
 abbrev pub formEncoded : Form → Encoded
 formEncoded f = record { verdict = formVerdict f; count = length (formParcels f); places = padded (formParcels f) }
 
--- an instruction's parcels, whether it encodes, and both as one answer
+-- an instruction's parcels, and whether it encodes
 unfoldable pub parcelsOf : VisaInstruction → List ℕ
 parcelsOf v = formParcels (formOf v)
 
 unfoldable pub verdictOf : VisaInstruction → Verdict
 verdictOf v = formVerdict (formOf v)
-
-abbrev pub encodedOf : VisaInstruction → Encoded
-encodedOf v = record { verdict = verdictOf v; count = length (parcelsOf v); places = padded (parcelsOf v) }

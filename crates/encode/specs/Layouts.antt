@@ -22,8 +22,8 @@ use Rattle.items.specs.declared.LoopMode.{LoopMode}
 use Rattle.items.specs.declared.VisaInstruction.{VisaInstruction}
 use Rattle.items.specs.declared.Instruction.the-variants as Scalar
 use Rattle.items.specs.declared.VisaInstruction.the-variants as Visa
-use Rattle.computes.specs.Compute.{type2a, whole, scalarParts, partsOf, fieldsOf}
-use Rattle.words.specs.Forms.{bitOf, conditionCode, isStore, isPost, isF1, long17a, move5a, modify19a, offset15a, jump8a, call25a, store16a, mode18a, dual1a, memory3a, loop12a, registerLoop12a, nop21a, transfer5b, modify3b, offset15b, modify3c, nop21c, leafReturn}
+use Rattle.computes.specs.Compute.{scalarParts, partsOf, fieldsOf}
+use Rattle.words.specs.Forms.{type2a, whole, bitOf, conditionCode, isStore, isPost, isF1, long17a, move5a, modify19a, offset15a, jump8a, call25a, store16a, mode18a, dual1a, memory3a, loop12a, registerLoop12a, nop21a, transfer5b, modify3b, offset15b, modify3c, nop21c, leafReturn}
 use Rattle.encode.specs.Registers.{isPm}
 use Rattle.encode.specs.Refusals.{offsetRefusals, modifyRefusals, jumpRefusals, callRefusals, dualRefusals, storeRefusals, memoryRefusals, loopRefusals}
 

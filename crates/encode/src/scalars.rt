@@ -1,7 +1,8 @@
 // The words of scalar instructions and of single computes.
 ghost use mathlib.Core.Path.{_≡_};
 ghost use Rattle.fields.specs.Pack.{pack};
-ghost use Rattle.computes.specs.Compute.{type2a, scalarParts, partsOf, fieldsOf};
+ghost use Rattle.computes.specs.Compute.{scalarParts, partsOf, fieldsOf};
+ghost use Rattle.words.specs.Forms.{type2a};
 ghost use Rattle.encode.specs.Layouts.{scalarFields};
 use computes::SingleCompute;
 use computes::compute_word;

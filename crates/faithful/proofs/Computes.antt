@@ -24,7 +24,7 @@ use Rattle.rows.specs.declared.Beside.the-variants as beside
 use Rattle.rows.specs.Fields.{instructionOf}
 use Rattle.rows.specs.Rows.{computeOf, besideOf}
 use Rattle.rows.specs.Rows as rows
-use Rattle.rows.proofs.Kept.{Below}
+use Rattle.rows.specs.Kept.{Below}
 use Rattle.faithful.specs.Words.{computeFields}
 use Rattle.faithful.proofs.Lines.{_&_, Inside}
 use Rattle.faithful.proofs.Ranges.{ranged}

@@ -8,7 +8,7 @@ use lib.Dec.{eqb}
 use borrow.Author.Tests.{eqb-true}
 use Rattle.bounds.specs.Tables.{lookup}
 use Rattle.bounds.specs.Bounds.{never, filled, fields}
-use Rattle.rows.proofs.Kept.{Below}
+use Rattle.rows.specs.Kept.{Below}
 
 abbrev pub Each : {A : Type 0} → (ℕ → Type 0) → List (ℕ × A) → Type 0
 Each P [] = Unit

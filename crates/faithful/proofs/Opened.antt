@@ -15,7 +15,7 @@ use Rattle.items.specs.declared.DataAccess.{DataAccess}
 use Rattle.items.specs.declared.MemoryAccess.{MemoryAccess}
 use Rattle.items.specs.declared.VisaInstruction.{VisaInstruction}
 use Rattle.items.specs.declared.VisaInstruction.the-variants as Visa
-use Rattle.computes.specs.Compute.{type2a, whole}
+use Rattle.words.specs.Forms.{type2a, whole}
 use Rattle.computes.proofs.Ranged.{Ranged, RangedCompute, RangedData, RangedMemory}
 use Rattle.encode.specs.Layouts.{fieldOf, dualFields, memoryFields, layoutOf}
 use Rattle.encode.specs.Encoding.{parcelsOf, verdictOf}

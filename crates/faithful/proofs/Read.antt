@@ -29,7 +29,8 @@ use Rattle.rows.specs.declared.Read.{Read}
 use Rattle.rows.specs.declared.Read.the-variants as read
 use Rattle.rows.specs.Fields.{instructionOf, countOf, code}
 use Rattle.rows.specs.Rows.{itemOf, after, readOf, computeItem, dualItem, memoryItem, computeOf, besideOf, dmOf, pmOf, accessOf}
-use Rattle.rows.proofs.Kept.{Below, within-bounds}
+use Rattle.rows.specs.Kept.{Below}
+use Rattle.rows.proofs.Kept.{within-bounds}
 use Rattle.faithful.proofs.Lines.{_&_, Inside}
 
 -- a row that is read is within its bounds

@@ -34,7 +34,7 @@ use Rattle.rows.specs.declared.Beside.the-variants as beside
 use Rattle.rows.specs.declared.Read.the-variants as read
 use Rattle.rows.specs.Fields.{instructionOf}
 use Rattle.rows.specs.Rows.{readOf, computeItem, dualItem, memoryItem, computeOf, besideOf, dataAccessOf, memoryAccessOf, dmOf, pmOf, accessOf}
-use Rattle.rows.proofs.Kept.{Below}
+use Rattle.rows.specs.Kept.{Below}
 use Rattle.faithful.specs.Words.{computeFields, rowFields, EachInstruction, EachJump, EachLoop}
 use Rattle.faithful.proofs.Ranges.{ranged}
 use Rattle.faithful.proofs.Computes.{row8, compute-opens, beside-opens}

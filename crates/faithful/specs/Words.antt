@@ -15,7 +15,8 @@ use Rattle.items.specs.declared.LoopCount.{LoopCount}
 use Rattle.items.specs.declared.LoopMode.{LoopMode}
 use Rattle.items.specs.declared.VisaInstruction.{VisaInstruction}
 use Rattle.items.specs.declared.Item.the-variants as item
-use Rattle.computes.specs.Compute.{type2a, partsOf, fieldsOf, multiFields}
+use Rattle.computes.specs.Compute.{partsOf, fieldsOf, multiFields}
+use Rattle.words.specs.Forms.{type2a}
 use Rattle.encode.specs.Layouts.{layoutOf, dualFields, memoryFields, jumpLayout, loopLayout}
 use Rattle.encode.specs.Encoding.{parcelsOf, verdictOf, jumpForm, loopForm, formParcels, formVerdict}
 use Rattle.bounds.specs.Tables.{lookup, at}

@@ -14,7 +14,6 @@ use Rattle.refusals.specs.declared.Told.{Told}
 use Rattle.refusals.specs.Numbers.{among, reading, encoding}
 use Rattle.refusals.proofs.Numbered.{answers-zero}
 use Rattle.refusals.proofs.Within.{Tells, tells-answer, tells-wider, other}
-use Rattle.items.specs.declared.VisaInstruction.{VisaInstruction}
 use Rattle.items.specs.declared.Item.the-variants as item
 use Rattle.encode.specs.declared.Form.{Form}
 use Rattle.encode.specs.declared.Form.the-variants as form
@@ -27,7 +26,7 @@ use Rattle.coded.specs.declared.Coded.{Coded}
 use Rattle.coded.specs.declared.Coded.the-variants as coded
 use Rattle.coded.specs.Coded.{codedOf, readVerdict, encodes}
 use Rattle.coded.proofs.Numbers.{row-tells, encodes-tells}
-use Rattle.instruction.specs.Instruction.{heldForm, isMark, formAt, Encodes, instructionNumbers}
+use Rattle.instruction.specs.Instruction.{heldForm, isMark, formAt, Accepted, Encodes, instructionNumbers}
 
 -- ---- the numbers
 abbrev FormTells : Form → Type 0
@@ -52,13 +51,6 @@ form-tells row =
     either (eqb (length row) rowWidth) _ _ (either (isMark (at row 0)) _ _ refl held) refl
 
 -- ---- accepted: the row holds an instruction, and it encodes
-pub record Accepted (row : List ℕ) : Type 0 where
-  pub long : eqb (length row) rowWidth ≡ true
-  pub no-mark : isMark (at row 0) ≡ false
-  pub instruction : VisaInstruction
-  pub read : readOf row 0 ≡ read.Item (item.Instruction instruction)
-  pub encodes : verdictOf instruction ≡ verdict.Good
-
 refused-good : {A : Type 0} (r : Refusal) → formVerdict (form.Refused r) ≡ verdict.Good → A
 refused-good r e = let z : _≡_ {A = ℕ} 0 1 = cc in absurd (omega arith)
 

@@ -8,22 +8,23 @@ use lib.ListN.{length}
 use Rattle.refusals.specs.declared.Told.{Told}
 use Rattle.refusals.specs.Numbers.{among}
 use Rattle.rows.specs.Rows.{wellFormed}
-use Rattle.instruction.specs.Instruction.{instructionNumbers, Encodes}
+use Rattle.instruction.specs.Instruction.{instructionNumbers, Accepted, Encodes}
 use Rattle.instruction.proofs.Single.{no-second-answer}
-use Rattle.instruction.proofs.Numbers.{Accepted, instruction-zero, instruction-numbers}
+use Rattle.instruction.proofs.Numbers.{instruction-zero, instruction-numbers}
 use Rattle.places.specs.Left.{Lent, Builds}
 use Rattle.places.proofs.Single.{no-second-build}
 use Rattle.rules.specs.Accepted.{ValidRows}
 use Rattle.rules.proofs.Answers.{accepted-well-formed, build-accepts-exactly-when-valid}
 use Rattle.rules.proofs.Fits.{accepted-fits}
-use Rattle.rules.proofs.Numbers.{Tellable, build-tells}
+use Rattle.rules.specs.Tellable.{Tellable}
+use Rattle.rules.proofs.Numbers.{build-tells}
 use Rattle.counts.specs.declared.Counting.{Counting}
-use Rattle.counts.specs.Counts.{rowVerdict, Counts, numbersFor}
+use Rattle.counts.specs.Counts.{rowVerdict, Passes, Counts, numbersFor}
 use Rattle.counts.proofs.Single.{no-second-count}
-use Rattle.counts.proofs.Numbers.{Passes, count-zero, count-numbers}
-use Rattle.slots.specs.Slots.{Checks, slotNumbers}
+use Rattle.counts.proofs.Numbers.{count-zero, count-numbers}
+use Rattle.slots.specs.Slots.{Filled, Checks, slotNumbers}
 use Rattle.slots.proofs.Single.{no-second-verdict}
-use Rattle.slots.proofs.Numbers.{Filled, check-zero, check-numbers}
+use Rattle.slots.proofs.Numbers.{check-zero, check-numbers}
 use Rattle.parcel_bytes.specs.declared.ToldBytes.{ToldBytes}
 use Rattle.parcel_bytes.specs.Bytes.{Writes}
 use Rattle.parcel_bytes.proofs.Single as bytes

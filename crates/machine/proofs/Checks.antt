@@ -17,7 +17,7 @@ use Rattle.places.specs.declared.OpenLoop.{OpenLoop}
 use Rattle.places.specs.declared.Rooms.{Rooms}
 use Rattle.places.specs.Items.{sizeOf}
 use Rattle.prefixes.proofs.Tests.{true-false}
-use Rattle.prefixes.proofs.Verdicts.{when-good, orElse-good}
+use Rattle.refusals.proofs.Order.{when-good, orElse-good}
 use Rattle.tables.specs.declared.Sought.{Sought}
 use Rattle.tables.specs.declared.Sought.the-variants.{At, Nowhere}
 use Rattle.tables.specs.Tables.{lookup, isThere}

@@ -15,7 +15,6 @@ ghost use Rattle.places.specs.Items.{sizeOf, labelWidth, jumpWidth, mostParcels
 ghost use Rattle.coded.specs.Fine.{CodedFine};
 ghost use Rattle.tables.specs.Tables.{Entries};
 ghost use Rattle.machine.specs.Machine.{advanced, endNext, tailShort, topForm, instructionChk, labelChk, jumpChk, beginChk, endChk, Instructed, Labelled, Jumped, Begun, Ended, TopFine, Within, Fine, Stepped};
-ghost use Rattle.machine.specs.Fold.{zeroState};
 use coded::Coded;
 use coded::Coding;
 use encode::Form;
@@ -50,6 +49,19 @@ pub struct State {
     pub ended: usize,
 }
 
+// The state before the first row.
+pub const START: State = State {
+    at: 0,
+    labels: 0,
+    jumps: 0,
+    depth: 0,
+    count: 0,
+    last: 0,
+    short: 0,
+    shortat: 0,
+    ended: 0,
+};
+
 // What a row makes of a state: the next one, with a loop opened, of this record, or the innermost closed; or why the row is refused.
 pub enum Step {
     On(State),
@@ -70,23 +82,6 @@ fn tail_short(begin: usize, short: usize, count: usize) -> bool
 }
 
 impl State {
-    // The state before the first row.
-    pub fn start() -> State
-        ensures { λ r. ⌜ r ≡ zeroState ⌝ }
-    {
-        State {
-            at: 0,
-            labels: 0,
-            jumps: 0,
-            depth: 0,
-            count: 0,
-            last: 0,
-            short: 0,
-            shortat: 0,
-            ended: 0,
-        }
-    }
-
     // The state once an instruction entry of n parcels stands at its place.
     fn advance(mut self, n: usize) -> State
         requires { ⌜ (self .at ≤ mostParcels) × (self .count ≤ mostParcels) × (n ≤ 6) ⌝ }
@@ -292,7 +287,7 @@ impl State {
         requires { ⌜ self .last ≤ mostParcels ⌝ }
         ensures { λ r. ⌜ r ≡ topForm self top ⌝ }
     {
-        let place = tables::wide(top.place);
+        let place = top.place as usize;
         let count = records::count_from(top.count);
         let mode = records::mode_from(top.mode);
         encode::loop_form(count, mode, signs::apart(self.last, place))
@@ -306,7 +301,7 @@ impl State {
         if self.depth == 0 {
             return Verdict::Refused(Refusal::UnmatchedLoopEnd);
         }
-        let begin = tables::wide(top.first);
+        let begin = top.first as usize;
         let count = self.count;
         if count == begin {
             return Verdict::Refused(Refusal::EmptyLoop);
@@ -325,7 +320,7 @@ impl State {
         requires { ⌜ (0 < self .depth) × (top .place + 3 ≤ length (now parcels)) × (self .last ≤ mostParcels) ⌝ }
         ensures { λ r. ⌜ (r ≡ endNext self) × (now (parcels .exit) ≡ sets (now (parcels .entry)) (top .place) (settled (topForm self top))) ⌝ }
     {
-        let place = tables::wide(top.place);
+        let place = top.place as usize;
         let words = encode::settled(self.top_form(top));
         writer::mend(parcels, self.at, place, words);
         self.depth = self.depth - 1;

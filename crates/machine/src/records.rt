@@ -3,8 +3,7 @@ ghost use mathlib.Core.Path.{_≡_};
 ghost use Prim.Native.Nat.{_+_, _≤_};
 ghost use lib.ListN.{length};
 ghost use lib.Seq.{sets};
-ghost use Rattle.encode.specs.Encoding.{formParcels, formVerdict};
-ghost use Rattle.encode.specs.Encoding.{settled};
+ghost use Rattle.encode.specs.Encoding.{formParcels};
 ghost use Rattle.machine.specs.Machine.{countNumber, countFrom, modeNumber, modeFrom};
 use encode::Form;
 use items::LoopCount;
@@ -56,40 +55,7 @@ pub fn put_form(parcels: &mut [u16], at: usize, form: Form) -> usize
     requires { ⌜ at + length (formParcels form) ≤ length (now parcels) ⌝ }
     ensures { λ r. ⌜ (r ≡ at + length (formParcels form)) × (now (parcels .exit) ≡ sets (now (parcels .entry)) at (formParcels form)) ⌝ }
 {
-    match form {
-        Form::Short(w) => writer::emit(parcels, at, [(w % 0x1_0000) as u16, 0, 0, 0, 0, 0], 1),
-        Form::Pair(w) => writer::emit(
-            parcels,
-            at,
-            [
-                (w / 0x1_0000 % 0x1_0000) as u16,
-                (w % 0x1_0000) as u16,
-                0,
-                0,
-                0,
-                0,
-            ],
-            2,
-        ),
-        Form::Word(w) => writer::emit(
-            parcels,
-            at,
-            [
-                (w / 0x1_0000_0000 % 0x1_0000) as u16,
-                (w / 0x1_0000 % 0x1_0000) as u16,
-                (w % 0x1_0000) as u16,
-                0,
-                0,
-                0,
-            ],
-            3,
-        ),
-        Form::Leaf => writer::emit(
-            parcels,
-            at,
-            [0x4dfe, 0x0e3f, 0x083f, 0x343f, 0x1901, 0x0001],
-            6,
-        ),
-        Form::Refused(_) => at,
-    }
+    let cut = encode::cut_form(form);
+    let words = cut.places;
+    writer::emit(parcels, at, words, cut.count)
 }

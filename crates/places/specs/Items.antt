@@ -1,5 +1,5 @@
 -- The items of a list, and what is counted over the first i of them.
-use mathlib.Core.Bool.{Bool, true, false, not}
+use mathlib.Core.Bool.{Bool, cond}
 use mathlib.Core.List.{List}
 use Prim.Native.Nat.{ℕ, zero, suc, _+_, _-_, _*_, _/_, min}
 use lib.ListN.{length, take, drop}
@@ -35,16 +35,12 @@ pub record Traits : Type 0 where
 abbrev pub traits : ℕ → ℕ → ℕ → ℕ → ℕ → ℕ → ℕ → ℕ → ℕ → Traits
 traits s e l j n o c a b = record { size = s; entry = e; label = l; jump = j; short = n; opens = o; closes = c; start = a; len = b }
 
-abbrev pub oneIf : Bool → ℕ
-oneIf true = 1
-oneIf false = 0
-
 abbrev pub sizeOf : Form → ℕ
 sizeOf f = length (formParcels f)
 
 -- "Labels emit nothing. Jumps and loop starts take three parcels."
 abbrev pub about : Coded → Traits
-about (Instruction c) = traits (sizeOf (c .form)) 1 0 0 (oneIf (not (eqb (sizeOf (c .form)) 3))) 0 0 0 0
+about (Instruction c) = traits (sizeOf (c .form)) 1 0 0 (cond (eqb (sizeOf (c .form)) 3) 0 1) 0 0 0 0
 about (Label a b) = traits 0 0 1 0 0 0 0 a b
 about (Jump c a b) = traits 3 1 0 1 0 0 0 a b
 about (LoopBegin c m) = traits 3 1 0 0 0 1 0 0 0

@@ -42,15 +42,6 @@ roomsIn lent = roomsOf (length (lent .parcels)) (length (lent .labels)) (length 
 abbrev pub zeroLoop : OpenLoop
 zeroLoop = record { place = 0; first = 0; count = 0; mode = 0 }
 
--- ---- what item i of n leaves: parcels, a label entry, a waiting jump
-pub record Leaves : Type 0 where
-  pub parcels : List ℕ
-  pub labels : List ℕ
-  pub jumps : List ℕ
-
-abbrev pub leaves : List ℕ → List ℕ → List ℕ → Leaves
-leaves p l j = record { parcels = p; labels = l; jumps = j }
-
 -- a word whose label, or whose loop's end, is not found
 abbrev pub zeros : List ℕ
 zeros = 0 ∷ 0 ∷ 0 ∷ []
@@ -64,14 +55,14 @@ module _ (it : ℕ → Coded) where
   loopParcels c m i (at e) = settled (loopForm c m (loopOffset it e i))
   loopParcels c m i nothing = zeros
 
--- "Label entries (start, length, place) and waiting jumps (place, row)"
-abbrev pub left : List ℕ → (ℕ → Coded) → ℕ → ℕ → Coded → Leaves
-left names it n i (Instruction c) = leaves (formParcels (c .form)) [] []
-left names it n i (Label a b) = leaves [] (a ∷ b ∷ address it i ∷ []) []
-left names it n i (Jump c a b) = leaves (jumpParcels it c i (labelled names it a b n)) [] (place it i ∷ i ∷ [])
-left names it n i (LoopBegin c m) = leaves (loopParcels it c m i (closer it n i)) [] []
-left names it n i LoopEnd = leaves [] [] []
-left names it n i (coded.Refused r) = leaves [] [] []
+-- what item i of n leaves: parcels; "Label entries (start, length, place) and waiting jumps (place, row)"
+abbrev pub left : List ℕ → (ℕ → Coded) → ℕ → ℕ → Coded → Lent
+left names it n i (Instruction c) = lentOf (formParcels (c .form)) [] [] []
+left names it n i (Label a b) = lentOf [] (a ∷ b ∷ address it i ∷ []) [] []
+left names it n i (Jump c a b) = lentOf (jumpParcels it c i (labelled names it a b n)) [] (place it i ∷ i ∷ []) []
+left names it n i (LoopBegin c m) = lentOf (loopParcels it c m i (closer it n i)) [] [] []
+left names it n i LoopEnd = lentOf [] [] [] []
+left names it n i (coded.Refused r) = lentOf [] [] [] []
 
 -- f 0, .., f (i - 1), one after the other
 abbrev pub gather : (ℕ → List ℕ) → ℕ → List ℕ
@@ -97,7 +88,7 @@ module _ (k : Kernel) (lent : Lent) where
   abbrev pub took : ℕ
   took = taken k (roomsIn lent)
 
-  abbrev pub leftBy : ℕ → Leaves
+  abbrev pub leftBy : ℕ → Lent
   leftBy i = left (k .names) (k .it) (k .n) i (k .it i)
 
   -- zeros "in the parcels, label entries and jump entries that the rows before the refused one took .., and in the loop places up to
@@ -134,10 +125,6 @@ BuildsAlone rows names p l j told p′ l′ j′ =
     Builds rows names (lentOf p l j (replicate 64 zeroLoop)) told (lentOf p′ l′ j′ (buildOf rows names (lentOf p l j (replicate 64 zeroLoop)) .lent .loops))
 
 -- "the name itself is handed back as that part of the lent names, by a call on the answer and the names .. any other answer, or a range
--- outside the names, gives an empty part"
-abbrev pub nameOf : List ℕ → Answer → List ℕ
-nameOf names a = part names (answered a .start) (answered a .length)
-
--- THE CONTRACT of the name that is handed back
+-- outside the names, gives an empty part": THE CONTRACT of the name
 abbrev pub HandsBack : List ℕ → Answer → List ℕ → Type 0
-HandsBack names a x = x ≡ nameOf names a
+HandsBack names a x = x ≡ part names (answered a .start) (answered a .length)

@@ -1,5 +1,4 @@
 pub mod Tests
-pub mod Verdicts
 pub mod Looking
 pub mod Traits
 pub mod Totals

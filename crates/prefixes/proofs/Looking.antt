@@ -2,11 +2,15 @@
 use Prim.Native.Nat.{ℕ, zero, suc, _≤_, _<_}
 use native.Mathlib.Omega.{arith}
 use native.Mathlib.Nat.{eq-or-lt-of-le}
-use mathlib.Core.Path.{_≡_, refl, _∙_, subst}
+use mathlib.Core.Path.{_≡_, refl, sym, ap, _∙_, subst}
 use mathlib.Core.Logic.{_⊎_, inl, inr, ⊎-elim}
 use mathlib.Core.Bool.{Bool, true, false, cond}
+use Rattle.refusals.specs.declared.Refusal.{Refusal}
+use Rattle.refusals.specs.declared.Verdict.the-variants.{Good}
+use Rattle.refusals.proofs.Order.{refused-good, below-suc}
 use Rattle.places.specs.Looking.{latest, Found, at, nothing, isFound, newest, earliest}
-use Rattle.prefixes.proofs.Tests.{true-false, order, below-suc}
+use Rattle.places.specs.Verdict.{whenFound}
+use Rattle.prefixes.proofs.Tests.{true-false, not-so, order}
 
 pub pick-true : {A : Type 0} (t : Bool) (a b : A) → t ≡ true → cond t a b ≡ a
 pick-true t a b e = rw e
@@ -101,3 +105,12 @@ earliest-row t (suc n) = go (earliest-row t n) (t n) refl
     go (inr f) b e =
         let r = f .1 in
         inr (f .0, record { before = omega (arith, r .before); holds = r .holds; earlier = r .earlier }, rw (f .2))
+
+-- a refusal for what is found: none is found
+module _ (t : ℕ → Bool) (i : ℕ) (r : ℕ → Refusal) where
+  pub found-good : whenFound (newest t i) r ≡ Good → None t i
+  found-good e =
+      ⊎-elim (λ n. n) (λ m. absurd (refused-good _ (sym (ap (λ (f : Found). whenFound f r) (newest-is t i m)) ∙ e))) (latest-row t i)
+
+  pub good-found : ((k : ℕ) → k < i → t k ≡ true → ⊥) → whenFound (newest t i) r ≡ Good
+  good-found h = ap (λ (f : Found). whenFound f r) (newest-none t i (λ q l. not-so _ (h q l)))

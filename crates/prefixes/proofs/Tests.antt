@@ -36,8 +36,3 @@ order a b = go (ltb a b) refl
 pub same-row : (x y : ℕ) → (x < y → ⊥) → (y < x → ⊥) → x ≡ y
 same-row x y f g =
     ⊎-elim (λ l. absurd (f l)) (λ h. ⊎-elim (λ e. sym e) (λ l. absurd (g l)) (eq-or-lt-of-le h)) (order x y)
-
--- what holds below i, and of i, holds below i + 1
-pub below-suc : (P : ℕ → Type 0) (i : ℕ) → ((k : ℕ) → k < i → P k) → P i → (k : ℕ) → k < suc i → P k
-below-suc P i all here k h =
-    ⊎-elim (λ e. subst P (sym e) here) (λ l. all k l) (eq-or-lt-of-le (let w : k ≤ i = omega arith in w))

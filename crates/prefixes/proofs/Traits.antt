@@ -2,7 +2,7 @@
 use Prim.Native.Nat.{ℕ, _+_, _≤_}
 use native.Mathlib.Omega.{arith}
 use mathlib.Core.Path.{_≡_, refl}
-use mathlib.Core.Bool.{Bool, true, false, not}
+use mathlib.Core.Bool.{Bool, true, false, cond}
 use lib.Dec.{eqb}
 use borrow.Author.Tests.{eqb-true, eqb-false}
 use Rattle.items.specs.declared.LoopCount.{LoopCount}
@@ -10,7 +10,7 @@ use Rattle.items.specs.declared.LoopMode.{LoopMode}
 use Rattle.coded.specs.declared.Coded.the-variants.{Instruction, Label, Jump, LoopBegin, LoopEnd}
 use Rattle.coded.specs.declared.Coded.{Coded}
 use Rattle.coded.specs.declared.Coded.the-variants.{Refused}
-use Rattle.places.specs.Items.{oneIf, sizeOf, about, size, isEntry}
+use Rattle.places.specs.Items.{sizeOf, about, size, isEntry}
 
 pub entry-bit : (x : Coded) → isEntry x ≤ 1
 entry-bit (Instruction v) = omega arith
@@ -49,11 +49,11 @@ closes-end LoopEnd e = refl
 closes-end (Refused r) e = absurd (omega arith)
 
 -- ---- a short instruction does not take three parcels, and each other entry does
-not-three : (n : ℕ) (t : Bool) → eqb n 3 ≡ t → oneIf (not t) ≡ 1 → n ≡ 3 → ⊥
+not-three : (n : ℕ) (t : Bool) → eqb n 3 ≡ t → _≡_ {A = ℕ} (cond t 0 1) 1 → n ≡ 3 → ⊥
 not-three n true e f q = omega arith
 not-three n false e f q = eqb-false n 3 e q
 
-three : (n : ℕ) (t : Bool) → eqb n 3 ≡ t → (oneIf (not t) ≡ 1 → ⊥) → n ≡ 3
+three : (n : ℕ) (t : Bool) → eqb n 3 ≡ t → (_≡_ {A = ℕ} (cond t 0 1) 1 → ⊥) → n ≡ 3
 three n true e f = eqb-true n 3 e
 three n false e f = absurd (f refl)
 

@@ -12,7 +12,7 @@ use reader::Reader;
 use reader::Reading;
 
 // The text of the build of rows and names at the front, and its length.
-pub fn list(rows: &[u32], names: &[u8], out: &mut [u8]) -> usize
+fn list(rows: &[u32], names: &[u8], out: &mut [u8]) -> usize
     requires { ⌜ 15384 ≤ length (now out) ⌝ }
     ensures { λ r. ⌜ Shows (listText (now (rows .entry)) (now (names .entry))) (now (out .exit)) r ⌝ }
 {

@@ -1,3 +1,4 @@
+pub mod Order
 pub mod Numbered
 pub mod Apart
 pub mod Within

@@ -82,8 +82,7 @@ answered (answer.Refused r) = toldOf r
 
 -- a check that finds nothing tells 0 and count 0
 abbrev pub checked : Verdict → Told
-checked verdict.Good = counted 0
-checked (verdict.Refused r) = toldOf r
+checked v = answered (answerOf v 0)
 
 -- the number told is one of these
 abbrev pub among : List ℕ → Told → Bool

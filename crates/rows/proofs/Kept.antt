@@ -15,18 +15,7 @@ use Rattle.bounds.specs.Tables.{at}
 use Rattle.bounds.specs.declared.Places.{Places}
 use Rattle.bounds.specs.declared.Places.the-variants.{Fine, Bad, Code}
 use Rattle.refusals.specs.declared.Verdict.the-variants.{Good}
-
--- each place holds a number below its bound
-abbrev pub Below : List ℕ → List ℕ → Type 0
-Below [] vs = Unit
-Below (b ∷ bs) [] = Unit
-Below (b ∷ bs) (v ∷ vs) = (v < b) × Below bs vs
-
--- a place whose bound is at most m holds its own remainder by m
-abbrev pub Kept : ℕ → List ℕ → List ℕ → Type 0
-Kept m [] vs = Unit
-Kept m (b ∷ bs) [] = Unit
-Kept m (b ∷ bs) (v ∷ vs) = (b ≤ m → v % m ≡ v) × Kept m bs vs
+use Rattle.rows.specs.Kept.{Below, Kept}
 
 late-not-fine : (v : ℕ) (rest : Places) → late v rest ≡ Fine → ⊥
 late-not-fine v Fine e = let z : _≡_ {A = ℕ} 0 1 = cc in omega arith

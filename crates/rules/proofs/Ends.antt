@@ -20,7 +20,8 @@ use Rattle.places.specs.Items.{about, size, isEntry, isEnd, isShort, address, e
 use Rattle.places.specs.Looking.{lastAt, opener}
 use Rattle.places.specs.Verdict.{faults, loopRow}
 use Rattle.prefixes.proofs.Tests.{true-false, and-both, order}
-use Rattle.prefixes.proofs.Verdicts.{AllGood, good-when, good-found}
+use Rattle.refusals.proofs.Order.{AllGood, good-when}
+use Rattle.prefixes.proofs.Looking.{good-found}
 use Rattle.prefixes.proofs.Traits.{closes-end, short-entry}
 use Rattle.prefixes.proofs.Totals.{total-up, LastEntry, last-entry, last-is}
 use Rattle.prefixes.proofs.Nesting.{innermost, not-before}

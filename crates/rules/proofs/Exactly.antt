@@ -20,7 +20,7 @@ use Rattle.places.specs.declared.Rooms.{Rooms}
 use Rattle.prefixes.proofs.Names.{Named}
 use Rattle.prefixes.proofs.Nesting.{nest-opens}
 use Rattle.prefixes.proofs.Tests.{not-so}
-use Rattle.prefixes.proofs.Verdicts.{when-good, AllGood, good-when, first-good, good-first, first-all, all-first}
+use Rattle.refusals.proofs.Order.{when-good, AllGood, good-when, first-good, good-first, first-all, all-first}
 use Rattle.rules.specs.Rules.{Valid}
 use Rattle.rules.proofs.Rows.{RowsPass, JumpsReach, rule1}
 use Rattle.rules.proofs.Labels.{rule2, unique, jump-reaches}

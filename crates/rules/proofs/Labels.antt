@@ -16,7 +16,7 @@ use Rattle.places.specs.Items.{address}
 use Rattle.places.specs.Looking.{Found, at, bears, labelled, isFound}
 use Rattle.places.specs.Verdict.{reach, reaches}
 use Rattle.prefixes.proofs.Tests.{true-false, same-row}
-use Rattle.prefixes.proofs.Verdicts.{refused-good, when-good}
+use Rattle.refusals.proofs.Order.{refused-good, when-good}
 use Rattle.prefixes.proofs.Looking.{not-found, at-nothing, earliest-row}
 use Rattle.prefixes.proofs.Names.{Named, bears-label, label-bears}
 use Rattle.rules.specs.Rules.{SameName, Aimed, Rule2}

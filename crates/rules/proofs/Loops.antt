@@ -18,7 +18,8 @@ use Rattle.places.specs.Items.{about, size, isEntry, isEnd, isShort, address, e
 use Rattle.places.specs.Looking.{lastAt, opener}
 use Rattle.places.specs.Verdict.{faults, loopRow}
 use Rattle.prefixes.proofs.Tests.{true-false, not-so, and-first, same-row}
-use Rattle.prefixes.proofs.Verdicts.{when-good, found-good, AllGood}
+use Rattle.refusals.proofs.Order.{when-good, AllGood}
+use Rattle.prefixes.proofs.Looking.{found-good}
 use Rattle.prefixes.proofs.Traits.{entry-bit, opens-entry, wide-entry}
 use Rattle.prefixes.proofs.Totals.{total-up, counted, last-is}
 use Rattle.rules.specs.Rules.{Pair, Body, Rule3, Last, Rule4, Rule5}

@@ -20,6 +20,7 @@ use Rattle.places.specs.Looking.{Found, at, nothing, shortOne}
 use Rattle.places.specs.Verdict.{whenFound}
 use Rattle.places.specs.Left.{Lent, Builds}
 use Rattle.prefixes.proofs.Names.{Named, rows-named}
+use Rattle.rules.specs.Tellable.{Tellable}
 use Rattle.rules.proofs.Walk.{Holds, build-holds}
 
 module _ (names : List ℕ) where
@@ -69,11 +70,6 @@ module _ (names : List ℕ) where
       }
 
 -- ---- an answer
-pub record Tellable (names : List ℕ) (t : Told) : Type 0 where
-  pub number : among (0 ∷ building) t ≡ true
-  pub within : t .start + t .length ≤ length names
-  pub unnamed : among naming t ≡ false → (t .start ≡ 0) × (t .length ≡ 0)
-
 answer-sound : (names : List ℕ) (v : Verdict) (n : ℕ) → Sound names v → Tellable names (answered (answerOf v n))
 answer-sound names Good n s = record { number = refl; within = omega arith; unnamed = λ f. (refl, refl) }
 answer-sound names (Refused r) n s = record { number = s .tells; within = s .within; unnamed = numbered r .unnamed }

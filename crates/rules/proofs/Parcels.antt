@@ -27,7 +27,7 @@ use Rattle.places.specs.Verdict.{kernel, reach, reaches, verdictAt, verdict, ta
 use Rattle.places.specs.Left.{Lent, roomsIn, jumpParcels, loopParcels, left, gather, put, built}
 use Rattle.places.proofs.Emitted.{emits, place-emitted}
 use Rattle.prefixes.proofs.Tests.{order}
-use Rattle.prefixes.proofs.Verdicts.{all-passing}
+use Rattle.refusals.proofs.Order.{all-passing}
 use Rattle.prefixes.proofs.Traits.{closes-end}
 use Rattle.prefixes.proofs.Totals.{total-up, last-entry, last-is}
 use Rattle.prefixes.proofs.Nesting.{closer-is}

@@ -11,7 +11,7 @@ use Rattle.coded.specs.declared.Coded.{Coded}
 use Rattle.coded.specs.declared.Coded.the-variants.{Refused}
 use Rattle.places.specs.declared.Rooms.{Rooms}
 use Rattle.places.specs.Items.{sizeOf, about, size, isLabel, isJump, total, place, nest}
-use Rattle.prefixes.proofs.Verdicts.{when-good}
+use Rattle.refusals.proofs.Order.{when-good}
 use Rattle.prefixes.proofs.Totals.{total-up}
 use Rattle.rules.specs.Rules.{Rule6}
 use Rattle.rules.proofs.Rows.{RowsPass, passed}

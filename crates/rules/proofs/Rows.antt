@@ -10,7 +10,7 @@ use Rattle.coded.specs.declared.Coded.the-variants.{Refused}
 use Rattle.refusals.specs.Order.{first}
 use Rattle.places.specs.Verdict.{faults, reaches}
 use Rattle.places.specs.declared.Rooms.{Rooms}
-use Rattle.prefixes.proofs.Verdicts.{AllGood, refused-good, first-good}
+use Rattle.refusals.proofs.Order.{AllGood, refused-good, first-good}
 use Rattle.rules.specs.Rules.{Rule1}
 
 -- every row passes, and every jump reaches its label

@@ -32,7 +32,7 @@ use Rattle.places.specs.Looking.{Found, at, nothing, isFound, opener, sharer, s
 use Rattle.places.specs.Verdict.{whenFound, jumpOffset, loopRow, reach, reaches, faults, kernel, verdictAt, verdict}
 use Rattle.places.specs.declared.Rooms.{Rooms}
 use Rattle.places.specs.Left.{Lent, roomsIn, kernelOf, outcome, built, Builds}
-use Rattle.prefixes.proofs.Verdicts.{all-first, either, stop-first}
+use Rattle.refusals.proofs.Order.{all-first, either, stop-first}
 use Rattle.rules.proofs.Exactly.{parts}
 
 -- what holds of a good verdict, and of each row, holds of the rows in turn

@@ -9,10 +9,9 @@ ghost use Rattle.encode.specs.Encoding.{formVerdict};
 ghost use Rattle.places.specs.Items.{rowAt, rowsIn, mostParcels};
 ghost use Rattle.refusals.specs.Order.{ifGood};
 ghost use Rattle.encode.specs.Encoding.{settled};
-ghost use Rattle.tables.specs.Tables.{lookup};
 ghost use Rattle.refusals.specs.Scan.{Came};
 ghost use Rattle.coded.specs.Fine.{CodedFine};
-ghost use Rattle.settling.specs.Settling.{aimForm, aimChk, aimed, Settles, waitChk, waited, AimFine, AimsFine};
+ghost use Rattle.settling.specs.Settling.{aimForm, Settles, waitChk, waited, AimFine, AimsFine};
 use coded::Coded;
 use items::Condition;
 use places::JUMP_WIDTH;
@@ -25,7 +24,7 @@ fn settle(condition: Condition, p: usize, q: u32, parcels: &mut [u16]) -> Verdic
     requires { ⌜ (p + 3 ≤ length (now parcels)) × (p ≤ mostParcels) ⌝ }
     ensures { λ r. ⌜ (r ≡ formVerdict (aimForm condition p q)) × (now (parcels .exit) ≡ ifGood r (sets (now (parcels .entry)) p (settled (aimForm condition p q))) (now (parcels .entry))) ⌝ }
 {
-    let form = encode::jump_form(condition, signs::apart(tables::wide(q), p), false);
+    let form = encode::jump_form(condition, signs::apart(q as usize, p), false);
     let encodes = encode::form_verdict(form);
     match encodes {
         Verdict::Refused(r) => {
@@ -37,28 +36,7 @@ fn settle(condition: Condition, p: usize, q: u32, parcels: &mut [u16]) -> Verdic
     Verdict::Good
 }
 
-// The jump at place p to a name: 12 before 9, or its word stands there.
-fn aim_one(
-    condition: Condition,
-    start: u32,
-    len: u32,
-    names: &[u8],
-    parcels: &mut [u16],
-    labels: &[u32],
-    n: usize,
-    p: usize,
-) -> Verdict
-    requires { ⌜ (AimFine (now names) (now labels) n p (length (now parcels))) × (start + len ≤ length (now names)) ⌝ }
-    ensures { λ r. ⌜ (r ≡ aimChk condition p start len (lookup (now (names .entry)) (now (labels .entry)) start len n 0)) × (now (parcels .exit) ≡ ifGood r (aimed condition p (lookup (now (names .entry)) (now (labels .entry)) start len n 0) (now (parcels .entry))) (now (parcels .entry))) ⌝ }
-{
-    let found = tables::names::find(names, labels, n, start as usize, len as usize);
-    match found {
-        Sought::At(q) => settle(condition, p, q, parcels),
-        Sought::Nowhere => Verdict::Refused(Refusal::UndefinedLabel(start, len)),
-    }
-}
-
-// A waiting jump's row at place p.
+// The waiting jump at place p, as its row says: 12 before 9, or the word to its label stands there.
 fn aim_coded(
     coded: Coded,
     names: &[u8],
@@ -75,7 +53,13 @@ fn aim_coded(
             condition,
             start,
             length,
-        } => aim_one(condition, start, length, names, parcels, labels, n, p),
+        } => {
+            let found = tables::names::find(names, labels, n, start as usize, length as usize);
+            match found {
+                Sought::At(q) => settle(condition, p, q, parcels),
+                Sought::Nowhere => Verdict::Refused(Refusal::UndefinedLabel(start, length)),
+            }
+        }
         _ => Verdict::Good,
     }
 }
@@ -95,8 +79,8 @@ pub fn aim_all(
 {
     let mut k = 0;
     while k < count {
-        let p = tables::wide(jumps[JUMP_WIDTH * k]);
-        let row = tables::wide(jumps[JUMP_WIDTH * k + 1]);
+        let p = jumps[JUMP_WIDTH * k] as usize;
+        let row = jumps[JUMP_WIDTH * k + 1] as usize;
         let coded = coded::coded_at(rows, row, names.len());
         let one = aim_coded(coded, names, parcels, labels, n, p);
         match one {

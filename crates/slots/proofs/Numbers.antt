@@ -14,20 +14,16 @@ use Rattle.refusals.proofs.Numbered.{checks-zero}
 use Rattle.refusals.proofs.Within.{Tells, tells-when, tells-orElse, tells-firstOf, other}
 use Rattle.coded.specs.Coded.{readVerdict}
 use Rattle.places.specs.Items.{rowAt, rowsIn}
-use Rattle.prefixes.proofs.Verdicts.{orElse-good, good-orElse, first-all, all-first}
+use Rattle.refusals.proofs.Order.{orElse-good, good-orElse, first-all, all-first}
 use Rattle.counts.specs.Counts.{listVerdict}
-use Rattle.counts.proofs.Numbers.{Passes, passes-good, list-tells, read-tells}
-use Rattle.slots.specs.Slots.{opens, filled, slotsOf, slotVerdict, slotCheckOf, Checks, slotNumbers}
+use Rattle.counts.proofs.Numbers.{passes-good, list-tells, read-tells}
+use Rattle.slots.specs.Slots.{opens, filled, slotsOf, slotVerdict, slotCheckOf, Filled, Checks, slotNumbers}
 
 module _ (rows names : List ℕ) where
   abbrev slot : ℕ → Verdict
   slot i = slotVerdict (rowAt rows names) (rowsIn rows) i
 
-  pub record Filled : Type 0 where
-    pub passes : Passes readVerdict rows names
-    pub slots : (i : ℕ) → i < rowsIn rows → slot i ≡ Good
-
-  check-good : (slotCheckOf rows names ≡ Good) ↔ Filled
+  check-good : (slotCheckOf rows names ≡ Good) ↔ Filled rows names
   check-good =
       let p = passes-good readVerdict rows names in (
         (λ e.
@@ -41,7 +37,7 @@ module _ (rows names : List ℕ) where
 
   -- ---- THE THEOREMS
   module _ {told : Told} (c : Checks rows names told) where
-    pub check-zero : (told .number ≡ 0) ↔ Filled
+    pub check-zero : (told .number ≡ 0) ↔ Filled rows names
     check-zero =
         let z = checks-zero (slotCheckOf rows names) in
         let e = ap (λ (t : Told). t .number) c in

@@ -12,7 +12,7 @@ use Rattle.refusals.specs.declared.Verdict.the-variants.{Good, Refused}
 use Rattle.coded.specs.declared.Coded.{Coded}
 use Rattle.coded.specs.declared.Coded.the-variants as coded
 use Rattle.refusals.specs.Order.{firstOf}
-use Rattle.prefixes.proofs.Verdicts.{AllPass, all-first, stop-first}
+use Rattle.refusals.proofs.Order.{AllPass, all-first, stop-first}
 use Rattle.coded.specs.Coded.{readVerdict}
 use Rattle.slots.specs.declared.Watch.{Watch}
 use Rattle.slots.specs.declared.Watch.the-variants.{Free, Both, Second, Broken}

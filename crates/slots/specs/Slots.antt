@@ -2,10 +2,11 @@
 use mathlib.Core.Path.{_≡_}
 use mathlib.Core.Bool.{Bool, true, false, _&&_, not}
 use mathlib.Core.List.{List, [], _∷_, _++_}
-use Prim.Native.Nat.{ℕ, _+_}
+use Prim.Native.Nat.{ℕ, _+_, _<_}
 use lib.Dec.{ltb}
 use Rattle.refusals.specs.declared.Refusal.the-variants.{BrokenSlot}
 use Rattle.refusals.specs.declared.Verdict.{Verdict}
+use Rattle.refusals.specs.declared.Verdict.the-variants.{Good}
 use Rattle.refusals.specs.declared.Told.{Told}
 use Rattle.refusals.specs.Numbers.{checked, reading}
 use Rattle.refusals.specs.Order.{when, orElse, firstOf}
@@ -13,7 +14,7 @@ use Rattle.items.specs.Kinds.{isBranch, hasSlots}
 use Rattle.coded.specs.declared.Coded.{Coded}
 use Rattle.coded.specs.Coded.{ofInstruction, readVerdict}
 use Rattle.places.specs.Items.{rowAt, rowsIn}
-use Rattle.counts.specs.Counts.{listVerdict}
+use Rattle.counts.specs.Counts.{listVerdict, Passes}
 
 -- "each delayed `JumpRelative` and each `CJump`"
 abbrev pub opens : Coded → Bool
@@ -39,6 +40,11 @@ slotVerdict it n i = when (opens (it i) && not (filled it n (slotsOf i))) (Broke
 -- "Refusals: 1, then the first row refusal, then 33 for the first such jump."
 abbrev pub slotCheckOf : List ℕ → List ℕ → Verdict
 slotCheckOf rows names = orElse (listVerdict readVerdict rows names) (firstOf (λ i. slotVerdict (rowAt rows names) (rowsIn rows) i) (rowsIn rows))
+
+-- none of them is met
+pub record Filled (rows names : List ℕ) : Type 0 where
+  pub passes : Passes readVerdict rows names
+  pub slots : (i : ℕ) → i < rowsIn rows → slotVerdict (rowAt rows names) (rowsIn rows) i ≡ Good
 
 -- THE CONTRACT of the slot check: what is told, in document 01's numbers
 abbrev pub Checks : List ℕ → List ℕ → Told → Type 0

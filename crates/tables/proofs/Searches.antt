@@ -51,9 +51,9 @@ module _ (ns ls : List ℕ) (a b n k : ℕ) (more : k < n) where
   find-more e = rw (peel n k more, e, add-one)
 
 -- an entry of another length; one of the same
-module _ (ns ls : List ℕ) (a b k x : ℕ) (long : x ≡ getD ls (3 * k + 1) 0) where
-  pub entry-no : (x ≡ b → ⊥) → false ≡ entryIs ns ls a b k
-  entry-no q = rw (← long, ne-eqb _ _ q)
+module _ (ns ls : List ℕ) (a b k : ℕ) where
+  pub entry-no : (getD ls (3 * k + 1) 0 ≡ b → ⊥) → false ≡ entryIs ns ls a b k
+  entry-no q = rw (ne-eqb _ _ q)
 
-  pub entry-yes : (y : ℕ) (r : Bool) → x ≡ b → y ≡ getD ls (3 * k) 0 → r ≡ sameFrom ns b y a → r ≡ entryIs ns ls a b k
-  entry-yes y r q s t = rw (← long, eq-eqb _ _ q, ← s) t
+  pub entry-yes : (r : Bool) → getD ls (3 * k + 1) 0 ≡ b → r ≡ sameFrom ns b (getD ls (3 * k) 0) a → r ≡ entryIs ns ls a b k
+  entry-yes r q t = rw (eq-eqb _ _ q) t

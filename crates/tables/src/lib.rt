@@ -13,13 +13,6 @@ pub enum Sought {
     Nowhere,
 }
 
-// A number of a table, to count with.
-pub fn wide(x: u32) -> usize
-    ensures { λ r. ⌜ r ≡ x ⌝ }
-{
-    x as usize
-}
-
 // The first n of four numbers stand in a table from `at` on.
 pub fn store(table: &mut [u32], at: usize, values: [u32; 4], n: usize)
     requires { ⌜ (n ≤ 4) × (at + n ≤ length (now table)) ⌝ }

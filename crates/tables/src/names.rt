@@ -6,7 +6,6 @@ ghost use Rattle.places.specs.Items.{labelWidth};
 ghost use Rattle.places.specs.Looking.{sameFrom};
 ghost use Rattle.tables.specs.Tables.{entryIs, lookup, Entries};
 use crate::Sought;
-use crate::wide;
 use places::LABEL_WIDTH;
 
 // Whether the `len` bytes of the names at `a` and at `b` are the same, from the last one back: names of one program often share
@@ -30,8 +29,8 @@ fn entry_is(names: &[u8], labels: &[u32], k: usize, start: usize, len: usize) ->
     requires { ⌜ (labelWidth * k + labelWidth ≤ length (now labels)) × (start + len ≤ length (now names)) × (getD (now labels) (labelWidth * k) 0 + getD (now labels) (labelWidth * k + 1) 0 ≤ length (now names)) ⌝ }
     ensures { λ r. ⌜ r ≡ entryIs (now (names .entry)) (now (labels .entry)) start len k ⌝ }
 {
-    let other = wide(labels[LABEL_WIDTH * k]);
-    let long = wide(labels[LABEL_WIDTH * k + 1]);
+    let other = labels[LABEL_WIDTH * k] as usize;
+    let long = labels[LABEL_WIDTH * k + 1] as usize;
     if long != len {
         return false;
     }

@@ -20,7 +20,7 @@ use Rattle.places.specs.declared.Rooms.{Rooms}
 use Rattle.places.specs.Items.{rowAt, rowsIn}
 use Rattle.refusals.specs.Order.{when, orElse}
 use Rattle.places.specs.Left.{Lent, zeroLoop}
-use Rattle.prefixes.proofs.Verdicts.{refused-good}
+use Rattle.refusals.proofs.Order.{refused-good}
 use Rattle.machine.specs.declared.State.{State}
 use Rattle.machine.specs.declared.Step.{Step}
 use Rattle.machine.specs.declared.Step.the-variants.{Stop}

@@ -9,6 +9,7 @@ ghost use Rattle.places.specs.Items.{rowsIn};
 ghost use Rattle.places.specs.Left.{lentOf, zeroLoop};
 ghost use Rattle.machine.specs.Machine.{Fine, Rooming};
 ghost use Rattle.taking.specs.Taking.{goingOn, startOf, moreOf, wentOn, lateOf, turnedOf, closedOf, RowTurn, Stepping, Onward, Ready, Turnt, Took};
+use machine::START;
 use machine::State;
 use machine::Step;
 use places::OpenLoop;
@@ -36,16 +37,15 @@ pub struct Turned {
 fn begun(rows: &[u32]) -> Taking
     ensures { λ r. ⌜ r ≡ startOf (now (rows .entry)) ⌝ }
 {
-    let state = State::start();
     if rows::well_formed(rows) {
         return Taking {
-            state,
+            state: START,
             row: 0,
             verdict: Verdict::Good,
         };
     }
     Taking {
-        state,
+        state: START,
         row: 0,
         verdict: Verdict::Refused(Refusal::RowSlice),
     }

@@ -2,16 +2,9 @@
 use Prim.Native.Nat.{ℕ}
 use native.Mathlib.Omega.{arith}
 use Rattle.fields.specs.Pack.{Tiles}
-use Rattle.computes.specs.Compute.{type2a, single, multi, whole}
-use Rattle.words.specs.Forms.{long17a, move5a, modify19a, offset15a, jump8a, call25a, store16a, mode18a, dual1a, memory3a, loop12a, registerLoop12a, nop21a, transfer5b, modify3b, offset15b, modify3c, nop21c, leafReturn}
+use Rattle.words.specs.Forms.{type2a, whole, long17a, move5a, modify19a, offset15a, jump8a, call25a, store16a, mode18a, dual1a, memory3a, loop12a, registerLoop12a, nop21a, transfer5b, modify3b, offset15b, modify3c, nop21c, leafReturn}
 
 -- three parcels
-pub tiles-single : (unit opcode rn rx ry : ℕ) → Tiles 48 (type2a (single unit opcode rn rx ry))
-tiles-single unit opcode rn rx ry = omega arith
-
-pub tiles-multi : (opcode product destination mulX mulY aluX aluY : ℕ) → Tiles 48 (type2a (multi opcode product destination mulX mulY aluX aluY))
-tiles-multi opcode product destination mulX mulY aluX aluY = omega arith
-
 pub tiles-2a : (n : ℕ) → Tiles 48 (type2a (whole n))
 tiles-2a n = omega arith
 

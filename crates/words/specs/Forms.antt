@@ -43,6 +43,14 @@ isF1 E2Active = false
 isF1 F1Active = true
 
 -- Three parcels.
+-- "Compute word (2a): bit 40, 11111 in 37:33, field in 22:0"
+abbrev pub type2a : List Field → List Field
+type2a compute = fixed 47 41 0 ∷ fixed 40 40 1 ∷ fixed 39 38 0 ∷ fixed 37 33 0b11111 ∷ fixed 32 23 0 ∷ compute
+
+-- a compute's 23 bits as one number
+abbrev pub whole : ℕ → List Field
+whole field = operand 22 0 field ∷ []
+
 -- "17a (0f)", "LoadDm (10), StoreDm (11)": the opcode, the register's code in 38:32, 32 bits of data
 abbrev pub long17a : ℕ → ℕ → ℕ → List Field
 long17a opcode code value = fixed 47 40 opcode ∷ fixed 39 39 0 ∷ operand 38 32 code ∷ operand 31 0 value ∷ []

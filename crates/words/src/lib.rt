@@ -2,15 +2,14 @@
 ghost use mathlib.Core.Path.{_≡_};
 ghost use Prim.Native.Nat.{_<_, _^_};
 ghost use Rattle.fields.specs.Pack.{pack};
-ghost use Rattle.computes.specs.Compute.{type2a, whole};
-ghost use Rattle.words.specs.Forms.{bitOf, conditionCode, isStore, isPost, isF1, long17a, move5a, modify19a, offset15a, jump8a, call25a, store16a, mode18a, dual1a, memory3a, loop12a, registerLoop12a, transfer5b, modify3b, offset15b, modify3c};
+ghost use Rattle.words.specs.Forms.{type2a, whole, bitOf, conditionCode, isStore, isPost, isF1, long17a, move5a, modify19a, offset15a, jump8a, call25a, store16a, mode18a, dual1a, memory3a, loop12a, registerLoop12a, transfer5b, modify3b, offset15b, modify3c};
 use items::Condition;
 use items::Direction;
 use items::LoopMode;
 use items::Update;
 
 // A flag as the number in its bit.
-pub fn bit(b: bool) -> u64
+fn bit(b: bool) -> u64
     ensures { λ r. ⌜ (r ≡ bitOf b) × (r < 2) ⌝ }
 {
     if b { 1 } else { 0 }

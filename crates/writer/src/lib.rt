@@ -12,7 +12,7 @@ pub struct Writer<'a> {
 }
 
 // The first n of six words stand in the parcels from `at` on. The answer is the place past them.
-pub fn put_run(parcels: &mut [u16], at: usize, words: [u16; 6], n: usize) -> usize
+fn put_run(parcels: &mut [u16], at: usize, words: [u16; 6], n: usize) -> usize
     requires { ⌜ (n ≤ 6) × (at + n ≤ length (now parcels)) ⌝ }
     ensures { λ r. ⌜ (r ≡ at + n) × (now (parcels .exit) ≡ sets (now (parcels .entry)) at (take n words)) ⌝ }
 {
@@ -25,7 +25,7 @@ pub fn put_run(parcels: &mut [u16], at: usize, words: [u16; 6], n: usize) -> usi
 }
 
 // Three words stand in the parcels at a place.
-pub fn put_three(parcels: &mut [u16], place: usize, words: [u16; 3])
+fn put_three(parcels: &mut [u16], place: usize, words: [u16; 3])
     requires { ⌜ place + 3 ≤ length (now parcels) ⌝ }
     ensures { λ _. ⌜ now (parcels .exit) ≡ sets (now (parcels .entry)) place words ⌝ }
 {
@@ -35,7 +35,7 @@ pub fn put_three(parcels: &mut [u16], place: usize, words: [u16; 3])
 }
 
 // A writer of these parcels whose next free place is `at`.
-pub fn open<'a>(parcels: &'a mut [u16], at: usize) -> Writer<'a>
+fn open<'a>(parcels: &'a mut [u16], at: usize) -> Writer<'a>
     ensures { λ r. ⌜ (r .parcels ≡ parcels .entry) × (r .at ≡ at) ⌝ }
 {
     Writer {
@@ -45,7 +45,7 @@ pub fn open<'a>(parcels: &'a mut [u16], at: usize) -> Writer<'a>
 }
 
 // The first n of six words stand at the next free place, which moves on by n.
-pub fn append<'a>(w: Writer<'a>, words: [u16; 6], n: usize) -> Writer<'a>
+fn append<'a>(w: Writer<'a>, words: [u16; 6], n: usize) -> Writer<'a>
     requires { ⌜ (n ≤ 6) × (w .at + n ≤ length (now (w .parcels))) ⌝ }
     ensures { λ r. ⌜ r ≡ appended (w .entry) words n ⌝ }
 {
@@ -58,7 +58,7 @@ pub fn append<'a>(w: Writer<'a>, words: [u16; 6], n: usize) -> Writer<'a>
 }
 
 // Three earlier parcels are written anew. The next free place stays, and is handed back.
-pub fn patch<'a>(w: Writer<'a>, place: usize, words: [u16; 3]) -> usize
+fn patch<'a>(w: Writer<'a>, place: usize, words: [u16; 3]) -> usize
     requires { ⌜ place + 3 ≤ length (now (w .parcels)) ⌝ }
     ensures { λ r. ⌜ (r ≡ w .entry .at) × (now (w .exit .0) ≡ sets (now (w .entry .parcels)) place words) ⌝ }
 {

@@ -1,15 +1,11 @@
 -- The word is the machine's, since the offset is; refused, nothing is written.
-use mathlib.Core.Path.{ap, _≡_, refl, sym, _∙_}
-use Prim.Native.Nat.{ℕ}
-use lib.IntN.{pos, _-ℤ_}
-use mir.Facts.{toZ-ofZ}
-use borrow.Author.Needs.{sfits-of, needs}
 use Rattle.settling.specs.Settling.{aimForm}
+use borrow.Author.Needs.{sfits-of}
+use mir.Facts.{toZ-ofZ}
+use mathlib.Core.Path.{_≡_, refl, sym, _∙_}
+use borrow.Author.Needs.{needs}
 use Rattle.settling.proofs.settle.Statement.{statement}
 use Rattle.settling.proofs.settle.Tie as tie
-
-wide-requires : tie.Need-wide-requires
-wide-requires c κs = search needs
 
 apart-requires : tie.Need-apart-requires
 apart-requires c κs = search needs
@@ -25,7 +21,7 @@ enum-known-encodes c = search needs
 
 returns : tie.Need-returns
 unfolding aimForm
-returns c = let a = c .before .before .before .before .before .before .before .before .args in let e : c .before .before .before .before .jump-form .result ≡ aimForm (a .condition) (a .p) (a .q) = rw (c .before .before .before .before .jump-form .ensures, toZ-ofZ (sfits-of (c .before .before .before .before .before .apart .ok)), c .before .before .before .before .before .apart .ensures ∙ ap (λ (x : ℕ). pos x -ℤ pos (a .p)) (c .before .before .before .before .before .before .wide .ensures)) in (rw (← e) (sym (c .before .encodes .given .1) ∙ c .before .before .before .form-verdict .ensures), refl)
+returns c = let a = c .before .before .before .before .before .before .before .args in let e : c .before .before .before .before .jump-form .result ≡ aimForm (a .condition) (a .p) (a .q) = rw (c .before .before .before .before .jump-form .ensures, toZ-ofZ (sfits-of (c .before .before .before .before .before .apart .ok)), c .before .before .before .before .before .apart .ensures) in (rw (← e) (sym (c .before .encodes .given .1) ∙ c .before .before .before .form-verdict .ensures), refl)
 
 enum-told : tie.Need-enum-told
 enum-told c = search needs
@@ -41,13 +37,12 @@ same-length c = search needs
 
 returns-2 : tie.Need-returns-2
 unfolding aimForm
-returns-2 c = let a = c .before .before .before .before .before .before .before .before .before .before .before .before .args in let e : c .before .before .before .before .before .before .before .before .jump-form .result ≡ aimForm (a .condition) (a .p) (a .q) = rw (c .before .before .before .before .before .before .before .before .jump-form .ensures, toZ-ofZ (sfits-of (c .before .before .before .before .before .before .before .before .before .apart .ok)), c .before .before .before .before .before .before .before .before .before .apart .ensures ∙ ap (λ (x : ℕ). pos x -ℤ pos (a .p)) (c .before .before .before .before .before .before .before .before .before .before .wide .ensures)) in (rw (← e) (sym (c .before .before .before .before .before .enum-told .given .1) ∙ c .before .before .before .before .before .before .before .form-verdict .ensures), rw (← e, ← c .before .before .before .settled .ensures) (c .before .before .mend .ensures .1))
+returns-2 c = let a = c .before .before .before .before .before .before .before .before .before .before .before .args in let e : c .before .before .before .before .before .before .before .before .jump-form .result ≡ aimForm (a .condition) (a .p) (a .q) = rw (c .before .before .before .before .before .before .before .before .jump-form .ensures, toZ-ofZ (sfits-of (c .before .before .before .before .before .before .before .before .before .apart .ok)), c .before .before .before .before .before .before .before .before .before .apart .ensures) in (rw (← e) (sym (c .before .before .before .before .before .enum-told .given .1) ∙ c .before .before .before .before .before .before .before .form-verdict .ensures), rw (← e, ← c .before .before .before .settled .ensures) (c .before .before .mend .ensures .1))
 
 pub settle-spec : {M : Type 1} → statement M
 settle-spec =
     tie.close
     (tie.spec
-    wide-requires
     apart-requires
     jump-form-requires
     form-verdict-requires

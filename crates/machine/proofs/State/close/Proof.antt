@@ -1,10 +1,11 @@
+-- The start's word stands at its place.
 use mathlib.Core.Path.{refl}
 use borrow.Author.Needs.{needs}
 use Rattle.machine.proofs.State.close.Statement.{statement}
 use Rattle.machine.proofs.State.close.Tie as tie
 
-wide-requires : tie.Need-wide-requires
-wide-requires c κs = search needs
+cast-place : tie.Need-cast-place
+cast-place c = search needs
 
 top-form-requires : tie.Need-top-form-requires
 top-form-requires c κs = search needs
@@ -22,13 +23,13 @@ same-length : tie.Need-same-length
 same-length c = search needs
 
 returns : tie.Need-returns
-returns c = (refl, rw (c .before .before .before .before .before .before .before .wide .ensures, c .before .before .before .before .before .settled .ensures, c .before .before .before .before .before .before .top-form .ensures) at (c .before .before .before .mend .ensures .1))
+returns c = (refl, rw (c .before .before .before .before .before .settled .ensures, c .before .before .before .before .before .before .top-form .ensures) at (c .before .before .before .mend .ensures .1))
 
 pub close-spec : {M : Type 1} → statement M
 close-spec =
     tie.close
     (tie.spec
-    wide-requires
+    cast-place
     top-form-requires
     settled-requires
     mend-requires

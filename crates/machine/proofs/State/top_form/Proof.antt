@@ -1,3 +1,4 @@
+-- The word of the record's count and mode over its offset.
 use Rattle.machine.specs.Machine.{topForm}
 use borrow.Author.Needs.{sfits-of}
 use mir.Facts.{toZ-ofZ}
@@ -5,8 +6,8 @@ use borrow.Author.Needs.{needs}
 use Rattle.machine.proofs.State.top_form.Statement.{statement}
 use Rattle.machine.proofs.State.top_form.Tie as tie
 
-wide-requires : tie.Need-wide-requires
-wide-requires c κs = search needs
+cast-place : tie.Need-cast-place
+cast-place c = search needs
 
 count-from-requires : tie.Need-count-from-requires
 count-from-requires c κs = search needs
@@ -22,13 +23,13 @@ loop-form-requires c κs = search needs
 
 returns : tie.Need-returns
 unfolding topForm
-returns c = rw (c .loop-form .ensures, c .before .before .before .count-from .ensures, c .before .before .mode-from .ensures, toZ-ofZ (sfits-of (c .before .apart .ok)), c .before .apart .ensures, c .before .before .before .before .wide .ensures)
+returns c = rw (c .loop-form .ensures, c .before .before .before .count-from .ensures, c .before .before .mode-from .ensures, toZ-ofZ (sfits-of (c .before .apart .ok)), c .before .apart .ensures)
 
 pub top-form-spec : {M : Type 1} → statement M
 top-form-spec =
     tie.close
     (tie.spec
-    wide-requires
+    cast-place
     count-from-requires
     mode-from-requires
     apart-requires

@@ -1,59 +1,59 @@
 -- By the test of the lengths, and then by the bytes.
+use Rattle.tables.proofs.Searches.{entry-no, entry-yes}
 use denote.Ref.{now}
 use borrow.Author.Needs.{needs}
-use Rattle.tables.proofs.Searches.{entry-no, entry-yes}
 use Rattle.tables.proofs.names.entry_is.Statement.{statement}
 use Rattle.tables.proofs.names.entry_is.Tie as tie
 
-mul-wide : tie.Need-mul-wide
-mul-wide c = search needs
+mul-other : tie.Need-mul-other
+mul-other c = search needs
 
-mul-wide-2 : tie.Need-mul-wide-2
-mul-wide-2 c = search needs
+mul-other-2 : tie.Need-mul-other-2
+mul-other-2 c = search needs
 
-shared-slice-read-wide : tie.Need-shared-slice-read-wide
-shared-slice-read-wide c = search needs
+shared-slice-read-other : tie.Need-shared-slice-read-other
+shared-slice-read-other c = search needs
 
-wide-requires : tie.Need-wide-requires
-wide-requires c κs = search needs
+cast-other : tie.Need-cast-other
+cast-other c = search needs
 
-mul-wide-3 : tie.Need-mul-wide-3
-mul-wide-3 c = search needs
+mul-long : tie.Need-mul-long
+mul-long c = search needs
 
-add-wide : tie.Need-add-wide
-add-wide c = search needs
+add-long : tie.Need-add-long
+add-long c = search needs
 
-mul-wide-4 : tie.Need-mul-wide-4
-mul-wide-4 c = search needs
+mul-long-2 : tie.Need-mul-long-2
+mul-long-2 c = search needs
 
-shared-slice-read-wide-2 : tie.Need-shared-slice-read-wide-2
-shared-slice-read-wide-2 c = search needs
+shared-slice-read-long : tie.Need-shared-slice-read-long
+shared-slice-read-long c = search needs
 
-wide-requires-2 : tie.Need-wide-requires-2
-wide-requires-2 c κs = search needs
+cast-long : tie.Need-cast-long
+cast-long c = search needs
 
 returns : tie.Need-returns
-returns c = let a = c .before .before .before .before .before .before .before .args in entry-no (now (a .names)) (now (a .labels)) (a .start) (a .len) (a .k) _ (c .before .wide2 .ensures) (c .if1 .taken)
+returns c = let a = c .before .before .before .before .before .args in entry-no (now (a .names)) (now (a .labels)) (a .start) (a .len) (a .k) (c .if1 .taken)
 
 same-requires : tie.Need-same-requires
 same-requires c κs = search needs
 
 returns-2 : tie.Need-returns-2
-returns-2 c = let a = c .before .before .before .before .before .before .before .before .args in entry-yes (now (a .names)) (now (a .labels)) (a .start) (a .len) (a .k) _ (c .before .before .wide2 .ensures) _ _ (c .before .if1 .left) (c .before .before .before .before .wide .ensures) (c .same .ensures)
+returns-2 c = let a = c .before .before .before .before .before .before .args in entry-yes (now (a .names)) (now (a .labels)) (a .start) (a .len) (a .k) _ (c .before .if1 .left) (c .same .ensures)
 
 pub entry-is-spec : {M : Type 1} → statement M
 entry-is-spec =
     tie.close
     (tie.spec
-    mul-wide
-    mul-wide-2
-    shared-slice-read-wide
-    wide-requires
-    mul-wide-3
-    add-wide
-    mul-wide-4
-    shared-slice-read-wide-2
-    wide-requires-2
+    mul-other
+    mul-other-2
+    shared-slice-read-other
+    cast-other
+    mul-long
+    add-long
+    mul-long-2
+    shared-slice-read-long
+    cast-long
     returns
     same-requires
     returns-2)

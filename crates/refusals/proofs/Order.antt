@@ -6,14 +6,10 @@ use mathlib.Core.Path.{_≡_, refl, sym, ap, _∙_, subst}
 use mathlib.Core.Logic.{_⊎_, inl, inr, ⊎-elim}
 use mathlib.Core.Bool.{Bool, true, false}
 use mathlib.Core.List.{List, [], _∷_}
 use Rattle.refusals.specs.declared.Refusal.{Refusal}
 use Rattle.refusals.specs.declared.Verdict.{Verdict}
 use Rattle.refusals.specs.declared.Verdict.the-variants.{Good, Refused}
 use Rattle.refusals.specs.Order.{when, orElse, first, firstOf, ifGood, passing}
-use Rattle.places.specs.Looking.{Found, newest}
-use Rattle.places.specs.Verdict.{whenFound}
-use Rattle.prefixes.proofs.Tests.{not-so, below-suc}
-use Rattle.prefixes.proofs.Looking.{None, latest-row, newest-is, newest-none}
 
 pub refused-good : (r : Refusal) → Refused r ≡ Good → ⊥
 refused-good r e = let z : _≡_ {A = ℕ} 0 1 = cc in omega arith
@@ -24,15 +20,6 @@ when-good false r e = refl
 
 pub good-when : (t : Bool) (r : Refusal) → t ≡ false → when t r ≡ Good
 good-when t r e = rw e
-
--- of the newest index that passes a test: none passes
-module _ (t : ℕ → Bool) (i : ℕ) (r : ℕ → Refusal) where
-  pub found-good : whenFound (newest t i) r ≡ Good → None t i
-  found-good e =
-      ⊎-elim (λ n. n) (λ m. absurd (refused-good _ (sym (ap (λ (f : Found). whenFound f r) (newest-is t i m)) ∙ e))) (latest-row t i)
-
-  pub good-found : ((k : ℕ) → k < i → t k ≡ true → ⊥) → whenFound (newest t i) r ≡ Good
-  good-found h = ap (λ (f : Found). whenFound f r) (newest-none t i (λ q l. not-so _ (h q l)))
 
 pub orElse-good : (v w : Verdict) → orElse v w ≡ Good → (v ≡ Good) × (w ≡ Good)
 orElse-good Good w e = (refl, e)
@@ -55,6 +42,11 @@ good-first [] g = refl
 good-first (v ∷ vs) g = good-orElse v (first vs) (g .0) (good-first vs (g .1))
 
 -- ---- rows in turn
+-- what holds below i, and of i, holds below i + 1
+pub below-suc : (P : ℕ → Type 0) (i : ℕ) → ((k : ℕ) → k < i → P k) → P i → (k : ℕ) → k < suc i → P k
+below-suc P i all here k h =
+    ⊎-elim (λ e. subst P (sym e) here) (λ l. all k l) (eq-or-lt-of-le (let w : k ≤ i = omega arith in w))
+
 abbrev pub AllPass : (ℕ → Verdict) → ℕ → Type 0
 AllPass f n = (q : ℕ) → q < n → f q ≡ Good
 
