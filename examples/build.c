@@ -1,6 +1,6 @@
 /*
  * Builds a small kernel through the C interface and prints its parcels and bytes; then one whose
- * jump leads nowhere, and prints the refusal with its name.
+ * jump leads nowhere, and prints the refusal with its name. Checks the slots of delayed jumps.
  */
 #include <inttypes.h>
 #include <stdio.h>
@@ -27,6 +27,18 @@ static const uint32_t astray[][LHODRUPESH_ROW] = {
     {51},           /* loop end */
     {49, 5, 3, 3},  /* jump to "end" always */
 };
+
+/* A delayed jump, with a label on its second slot. */
+static const uint32_t labelled_slot[][LHODRUPESH_ROW] = {
+    {38},          /* Nop */
+    {28, 5, 5, 1}, /* JumpRelative: always, 5 parcels on, delayed */
+    {38},          /* Nop, the first slot */
+    {48, 3, 3},    /* label "end" */
+    {38},          /* Nop, the second slot */
+};
+
+/* The same with a loop end there, which leaves the slot unfilled. */
+static const uint32_t broken_slot[][LHODRUPESH_ROW] = {{38}, {28, 5, 5, 1}, {38}, {51}, {38}};
 
 static uint16_t parcels[64];
 static uint32_t labels[8 * LHODRUPESH_LABEL_ENTRY];
@@ -70,6 +82,16 @@ static void print_counts(const uint32_t *rows, size_t rows_len)
            instruction_count.count, parcel_count.count, slots.number);
 }
 
+static void print_slots(const uint32_t *rows, size_t rows_len)
+{
+    struct lhodrupesh_told slots = lhodrupesh_slot_check(rows, rows_len, names, sizeof names - 1);
+
+    if (slots.number == 0)
+        printf("every slot is filled\n");
+    else
+        printf("slot check %" PRIu32 ": the jump in row %" PRId64 "\n", slots.number, slots.first);
+}
+
 static void print_refusal(struct lhodrupesh_told told)
 {
     printf("refused %" PRIu32 ", details %" PRId64 " and %" PRId64 ", name \"%.*s\"\n",
@@ -104,5 +126,7 @@ int main(void)
     print_counts(count_down[0], NUMBERS(count_down));
     print_counts(astray[0], NUMBERS(astray));
     print_built(astray[0], NUMBERS(astray));
+    print_slots(labelled_slot[0], NUMBERS(labelled_slot));
+    print_slots(broken_slot[0], NUMBERS(broken_slot));
     return 0;
 }

@@ -127,9 +127,10 @@ struct lhodrupesh_told lhodrupesh_instruction_count(const uint32_t *rows, size_t
                                                     const uint8_t *names, size_t names_len);
 
 /*
- * Whether the next two items after each delayed JumpRelative and each CJump exist and are
- * instruction items (kinds 0 to 39) other than JumpRelative, CJump and LeafReturn. Refused: 1, then
- * the first row refusal, then 33 for the first such jump, its row the detail.
+ * Whether, labels left out, the next two items after each delayed JumpRelative and each CJump exist
+ * and are instruction items (kinds 0 to 39) other than JumpRelative, CJump and LeafReturn. Any number
+ * of labels may stand around them, also labels that the build refuses. Refused: 1, then the first row
+ * refusal, then 33 for the first jump of which this isn't so, its row the detail.
  *   rows, rows_len     the row slice
  *   names, names_len   the names that the rows' ranges lie in
  */

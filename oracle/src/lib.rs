@@ -25,3 +25,4 @@ pub mod sample_rows;
 pub mod search;
 pub mod second;
 pub mod shrink;
+pub mod slot_lists;

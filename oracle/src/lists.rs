@@ -8,26 +8,23 @@ use crate::row::{row, Row};
 use crate::rows::{encodes, nearly, some_kind, spoiled, wild};
 use crate::second::{self, Limits, JUMP_ENTRY, LABEL_ENTRY};
 
-/// The case of this number in the run with this seed.
+/// The case of this number in the run with this seed. Some have a jump more, with labels around its
+/// slots.
 pub fn some_case(seed: u64, number: u64) -> Case {
     let mut random = Random::new(seed, number);
-    let list = some_list(&mut random);
+    let mut maker = Maker::new(&mut random);
+    maker.rows();
+    if maker.random.once_in(4) {
+        maker.slots();
+    }
+    let list = maker.finish();
     let lengths = some_lengths(&mut random, &list);
     Case { list, lengths }
 }
 
 pub fn some_list(random: &mut Random) -> List {
-    let names = Names::new(random);
-    let mut maker = Maker { random, names, rows: Vec::new() };
-    if maker.random.once_in(6) {
-        maker.soup();
-    } else {
-        maker.kernel();
-        let faults = maker.random.pick(&[0, 0, 0, 1, 1, 1, 2, 3, 6]);
-        for _ in 0..faults {
-            maker.spoil();
-        }
-    }
+    let mut maker = Maker::new(random);
+    maker.rows();
     maker.finish()
 }
 
@@ -86,7 +83,24 @@ struct Maker<'r> {
 
 const LOOP_END: [u32; 1] = [51];
 
-impl Maker<'_> {
+impl<'r> Maker<'r> {
+    fn new(random: &'r mut Random) -> Self {
+        let names = Names::new(random);
+        Self { random, names, rows: Vec::new() }
+    }
+
+    fn rows(&mut self) {
+        if self.random.once_in(6) {
+            self.soup();
+        } else {
+            self.kernel();
+            let faults = self.random.pick(&[0, 0, 0, 1, 1, 1, 2, 3, 6]);
+            for _ in 0..faults {
+                self.spoil();
+            }
+        }
+    }
+
     fn finish(self) -> List {
         let mut numbers = self.rows.concat();
         if self.random.once_in(200) {
@@ -224,6 +238,44 @@ impl Maker<'_> {
         let kind = self.random.pick(&KINDS);
         let row = encodes(self.random, kind);
         self.rows.push(row);
+    }
+
+    /// A jump with slots at a random place, and labels around what stands in them.
+    fn slots(&mut self) {
+        let at = self.below(self.rows.len() as u32 + 1) as usize;
+        let after = self.rows.split_off(at);
+        let jump = match self.below(2) {
+            0 => [28, self.random.below(7), self.random.below(0x1000), 1],
+            _ => [29, self.random.below(0x100_0000), 0, 0],
+        };
+        self.push(&jump);
+        self.some_labels();
+        for _ in 0..2 {
+            self.slot();
+            self.some_labels();
+        }
+        self.rows.extend(after);
+    }
+
+    /// Up to three labels, most of names that no other row has.
+    fn some_labels(&mut self) {
+        let count = self.random.pick(&[0, 0, 1, 1, 2, 3]);
+        for _ in 0..count {
+            let own = format!("row {}", self.rows.len()).into_bytes();
+            let name = if self.random.once_in(8) { self.pool_name() } else { None };
+            self.label(&name.unwrap_or(own));
+        }
+    }
+
+    /// What fills a slot, or nearly.
+    fn slot(&mut self) {
+        match self.below(12) {
+            0 => {}
+            1 => self.push(&LOOP_END),
+            2 => self.unplanned(),
+            3 | 4 => self.instruction(),
+            _ => self.wide(),
+        }
     }
 
     /// Rows without a plan, from few kinds and names.
@@ -379,5 +431,33 @@ fn some_lengths(random: &mut Random, list: &List) -> Lengths {
         labels: length(needs.labels, LABEL_ENTRY),
         jumps: length(needs.jumps, JUMP_ENTRY),
         loops: length(needs.loops, 1),
+    }
+}
+
+#[cfg(test)]
+mod tests {
+    use super::*;
+
+    /// Whether one of the two rows after a jump with slots is a label.
+    fn labelled(list: &List) -> bool {
+        let rows: Vec<&Row> = list.rows().collect();
+        let after = |at: usize| rows[at + 1..].iter().take(2);
+        let is_jump = |at: usize| rows[at][0] == 29 || (rows[at][0] == 28 && rows[at][3] == 1);
+        (0..rows.len()).any(|at| is_jump(at) && after(at).any(|row| row[0] == 48))
+    }
+
+    #[test]
+    fn labels_stand_among_slots_that_are_filled_and_that_are_not() {
+        let (mut filled, mut not) = (0, 0);
+        for list in (0..2000).map(|number| some_case(1, number).list) {
+            if labelled(&list) {
+                match second::slot_check(&list.numbers, &list.names, &Limits::default()) {
+                    Ok(()) => filled += 1,
+                    Err(refusal) if refusal.number == 33 => not += 1,
+                    Err(_) => {}
+                }
+            }
+        }
+        assert!(filled > 100 && not > 100, "{filled} filled, {not} not");
     }
 }

@@ -1,6 +1,7 @@
-//! A second reading of document 01's calls on lists, apart from the port and from the Rust's
-//! `VisaProgram`: the judge of rooms, leftovers, refusal order and rows that can't be
-//! constructed, which the Rust doesn't have. One instruction's parcels are the Rust's own.
+//! A second reading of document 01's calls on lists, and of document 02's labels in delay slots,
+//! apart from the port and from the Rust's `VisaProgram`: the judge of rooms, leftovers, refusal
+//! order, slots and rows that can't be constructed, which the Rust doesn't have. One instruction's
+//! parcels are the Rust's own.
 
 use std::collections::HashMap;
 
@@ -450,21 +451,26 @@ pub fn instruction_count(numbers: &[u32], names: &[u8], limits: &Limits) -> Resu
     Ok(count)
 }
 
-/// Refusal 1, the first row refusal, then 33 for the first delayed jump or `CJump` whose two
-/// slots aren't both instructions that stay.
+/// Refusal 1, the first row refusal, then 33 for the first delayed jump or `CJump` after which,
+/// labels left out, the next two items aren't both instructions that stay.
 pub fn slot_check(numbers: &[u32], names: &[u8], limits: &Limits) -> Result<(), Refusal> {
     let rows: Vec<&Row> = rows(numbers, limits)?.collect();
     for row in &rows {
         reading::item(row, names.len())?;
     }
-    let fills = |slot: Option<&&Row>| slot.is_some_and(|row| row[0] < 48 && !is_branch(row[0]));
     for (number, row) in rows.iter().enumerate() {
-        let slots = row[0] == 29 || (row[0] == 28 && row[3] == 1);
-        if slots && !(fills(rows.get(number + 1)) && fills(rows.get(number + 2))) {
+        let has_slots = row[0] == 29 || (row[0] == 28 && row[3] == 1);
+        if has_slots && !fill_slots(&rows[number + 1..]) {
             return Err(Refusal::of(33, number as i64));
         }
     }
     Ok(())
+}
+
+/// Whether, labels left out, the first two of these rows are there and are instructions that stay.
+fn fill_slots(after: &[&Row]) -> bool {
+    let slots = after.iter().filter(|row| row[0] != 48).take(2);
+    slots.filter(|row| row[0] <= 39 && !is_branch(row[0])).count() == 2
 }
 
 /// Parcels to bytes, low byte first: how many bytes. 34 when fewer are lent.

@@ -1,5 +1,5 @@
 //! What the Rust has no word on: rooms, limits, leftovers, the slot check and the bytes, each by
-//! a list whose answer document 01 settles.
+//! a list whose answer document 01 settles, for labels in slots document 02.
 
 use visa_oracle::list::{self, List};
 use visa_oracle::refusal::Refusal;
@@ -170,20 +170,80 @@ fn slots(written: &str) -> Result<(), Refusal> {
     second::slot_check(&list.numbers, &list.names, &Limits::default())
 }
 
+fn slot_at(row: i64) -> Result<(), Refusal> {
+    Err(Refusal::of(33, row))
+}
+
 #[test]
 fn two_instructions_that_stay_follow_a_delayed_jump() {
-    let at = |row| Err(Refusal::of(33, row));
     assert_eq!(slots("28 5 0 1|38|39"), Ok(()));
     assert_eq!(slots("29 7|38|39|29 7|39|39"), Ok(()));
     assert_eq!(slots("28 5|51"), Ok(()));
-    assert_eq!(slots("38|28 5 0 1|38"), at(1));
-    assert_eq!(slots("29 7|38|48 a"), at(0));
-    assert_eq!(slots("29 7|49 5 a|38"), at(0));
-    assert_eq!(slots("29 7|38|28 5"), at(0));
-    assert_eq!(slots("29 7|38|31"), at(0));
-    assert_eq!(slots("29 7|29 7|38|38"), at(0));
+    assert_eq!(slots("38|28 5 0 1|38"), slot_at(1));
+    assert_eq!(slots("29 7|49 5 a|38"), slot_at(0));
+    assert_eq!(slots("29 7|38|28 5"), slot_at(0));
+    assert_eq!(slots("29 7|38|31"), slot_at(0));
+    assert_eq!(slots("29 7|29 7|38|38"), slot_at(0));
     assert_eq!(slots("29 7|51|16 96"), Err(Refusal::of(4, 96)));
     assert_eq!(slots("29 4294967295|19 0 8|38"), Ok(()));
+}
+
+#[test]
+fn labels_stand_anywhere_around_the_slots() {
+    for jump in ["28 5 0 1", "29 7"] {
+        assert_eq!(slots(&format!("{jump}|48 a|38|39")), Ok(()), "before them");
+        assert_eq!(slots(&format!("{jump}|38|48 a|39")), Ok(()), "between them");
+        assert_eq!(slots(&format!("{jump}|38|39|48 a")), Ok(()), "behind them");
+        assert_eq!(slots(&format!("48 a|{jump}|38|39")), Ok(()), "before the jump");
+        assert_eq!(slots(&format!("{jump}|48 a|38|48 b|39|48 c")), Ok(()), "everywhere");
+        assert_eq!(slots(&format!("{jump}|48 a|48 b|38|48 c|48 d|39")), Ok(()), "two at a time");
+        let many = "48 a|".repeat(5000);
+        assert_eq!(slots(&format!("{jump}|{many}38|{many}39|{many}38")), Ok(()), "very many");
+    }
+}
+
+#[test]
+fn labels_in_slots_need_not_be_allowed_by_the_build() {
+    assert_eq!(slots("48 a|29 7|48 a|38|48 a|39"), Ok(()));
+    assert_eq!(slots("50 0 1|29 7|48 a|38|48 b|39|51"), Ok(()));
+    assert_eq!(built("48 a|29 7|48 a|38|39", [9; 4]).told, named(11, 1, 1));
+}
+
+#[test]
+fn a_label_fills_no_slot() {
+    assert_eq!(slots("29 7|48 a"), slot_at(0));
+    assert_eq!(slots("29 7|48 a|48 b|48 c"), slot_at(0));
+    assert_eq!(slots("29 7|38|48 a"), slot_at(0));
+    assert_eq!(slots("29 7|48 a|38"), slot_at(0));
+    assert_eq!(slots("48 a|38|28 5 0 1|48 b|38|48 c|48 d"), slot_at(2));
+}
+
+#[test]
+fn behind_labels_too_only_instructions_that_stay_fill_a_slot() {
+    for other in ["50 0 1", "51", "49 5 a", "28 5", "28 5 0 1", "29 7", "31"] {
+        assert_eq!(slots(&format!("29 7|48 a|{other}|38|39")), slot_at(0), "{other} first");
+        assert_eq!(slots(&format!("29 7|38|48 a|{other}|39|39")), slot_at(0), "{other} second");
+        assert_eq!(slots(&format!("29 7|48 a|48 b|{other}|48 c|38|39")), slot_at(0), "{other}");
+    }
+    for behind in ["50 0 1", "51", "49 5 a", "28 5", "31"] {
+        assert_eq!(slots(&format!("29 7|48 a|38|48 b|39|48 c|{behind}")), Ok(()), "{behind}");
+    }
+}
+
+#[test]
+fn the_first_jump_with_a_slot_unfilled_is_named() {
+    assert_eq!(slots("29 7|48 a|38|48 b|39|48 c|29 7|48 d|38"), slot_at(6));
+    assert_eq!(slots("48 a|29 7|48 b|38|48 c|28 5 0 1|48 d|38|39"), slot_at(1));
+}
+
+#[test]
+fn a_row_refusal_behind_comes_before_a_slot() {
+    assert_eq!(slots("29 7|48 a|51|38 1"), Err(Refusal::plain(2)));
+    assert_eq!(slots("29 7|48 a|38|48 b|16 96"), Err(Refusal::of(4, 96)));
+    let mut list = read("29 7|51|48 a|48 b");
+    list.names.pop();
+    let checked = second::slot_check(&list.numbers, &list.names, &Limits::default());
+    assert_eq!(checked, Err(Refusal::plain(2)), "a label whose name lies outside the names");
 }
 
 #[test]

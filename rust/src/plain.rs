@@ -201,8 +201,8 @@ pub fn instruction_count(rows: &[u32], names: &[u8]) -> Result<usize, Refusal> {
     counted(c::instruction_count(rows, names))
 }
 
-/// Whether the next two items after each delayed `JumpRelative` and each `CJump` are instructions
-/// that stay.
+/// Whether, labels left out, the next two items after each delayed `JumpRelative` and each `CJump`
+/// are instructions that stay.
 ///
 /// ```
 /// use lhodrupesh::plain::{self, Refusal};
@@ -211,6 +211,12 @@ pub fn instruction_count(rows: &[u32], names: &[u8]) -> Result<usize, Refusal> {
 /// let nop = [38, 0, 0, 0, 0, 0, 0, 0, 0, 0, 0, 0, 0, 0, 0, 0, 0];
 /// assert_eq!(plain::slot_check([c_jump, nop, nop].as_flattened(), &[]), Ok(()));
 /// assert_eq!(plain::slot_check([nop, c_jump, nop].as_flattened(), &[]), Err(Refusal::Slot(1)));
+///
+/// // A label on the second slot is passed over, a loop end there is not.
+/// let label = [48, 0, 4, 0, 0, 0, 0, 0, 0, 0, 0, 0, 0, 0, 0, 0, 0];
+/// let loop_end = [51, 0, 0, 0, 0, 0, 0, 0, 0, 0, 0, 0, 0, 0, 0, 0, 0];
+/// let check = |second| plain::slot_check([c_jump, nop, second, nop].as_flattened(), b"here");
+/// assert_eq!((check(label), check(loop_end)), (Ok(()), Err(Refusal::Slot(0))));
 /// ```
 pub fn slot_check(rows: &[u32], names: &[u8]) -> Result<(), Refusal> {
     counted(c::slot_check(rows, names)).map(|_| ())

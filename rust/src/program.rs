@@ -207,8 +207,11 @@ impl VisaProgram {
     /// let mut program = VisaProgram::new();
     /// program.push(VisaInstruction::CJump { target: 0x38c4 });
     /// program.push(VisaInstruction::Nop);
-    /// let checked = plain::slot_check(program.rows(), program.names());
-    /// assert_eq!(checked, Err(Refusal::Slot(0)));
+    /// program.label("second slot");
+    /// let check = |kernel: &VisaProgram| plain::slot_check(kernel.rows(), kernel.names());
+    /// assert_eq!(check(&program), Err(Refusal::Slot(0)));
+    /// program.push(VisaInstruction::Nop);
+    /// assert_eq!(check(&program), Ok(()));
     /// ```
     pub fn rows(&self) -> &[u32] {
         &self.rows

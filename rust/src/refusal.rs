@@ -116,7 +116,8 @@ pub enum Refusal {
     NoRoomForJumps(u32),
     /// 32: no room for more open loops than so many.
     NoRoomForLoops(u32),
-    /// 33: the jump in this row lacks an instruction that stays in one of its two slots.
+    /// 33: the jump in this row lacks an instruction that stays in one of its two slots, the next
+    /// two items that aren't labels.
     Slot(u32),
     /// 34: fewer bytes than twice the parcels; so many are lent.
     TooFewBytes(u64),

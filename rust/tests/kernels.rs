@@ -181,6 +181,51 @@ fn names_are_equal_when_their_bytes_are() {
     assert_eq!(plain::slot_check(program.rows(), program.names()), Ok(()));
 }
 
+/// The slot check of a delayed jump, and of a `CJump`, with these items after it.
+fn slot_checks(after: &[&str]) -> [Result<(), Refusal>; 2] {
+    use VisaInstruction as V;
+    let delayed = V::JumpRelative { condition: Condition::Always, offset: 0, delayed: true };
+    [delayed, V::CJump { target: 7 }].map(|jump| {
+        let mut program = VisaProgram::new();
+        program.push(jump);
+        for item in after {
+            match *item {
+                "nop" => program.push(V::Nop),
+                "return" => program.push(V::LeafReturn),
+                "jump" => program.jump(Condition::Eq, "here"),
+                "start" => program.loop_begin(LoopCount::Immediate(1), LoopMode::E2Active),
+                "end" => program.loop_end(),
+                label => program.label(label),
+            }
+        }
+        plain::slot_check(program.rows(), program.names())
+    })
+}
+
+#[test]
+fn labels_stand_around_slots() {
+    for after in [
+        &["here", "nop", "nop"][..],
+        &["nop", "here", "nop"],
+        &["nop", "nop", "here"],
+        &["here", "there", "nop", "here", "here", "nop", "here", "end"],
+    ] {
+        assert_eq!(slot_checks(after), [Ok(()); 2], "{after:?}");
+    }
+}
+
+#[test]
+fn other_items_than_labels_break_slots() {
+    for other in ["start", "end", "jump", "return"] {
+        for after in [["here", other, "nop", "nop"], ["nop", "here", other, "nop"]] {
+            assert_eq!(slot_checks(&after), [Err(Refusal::Slot(0)); 2], "{after:?}");
+        }
+    }
+    for after in [&["here"][..], &["nop", "here"], &["here", "nop", "here"]] {
+        assert_eq!(slot_checks(after), [Err(Refusal::Slot(0)); 2], "{after:?}");
+    }
+}
+
 #[test]
 fn rows_that_say_no_item_are_refused() {
     let mut row = VisaInstruction::Nop.row();

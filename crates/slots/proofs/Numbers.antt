@@ -3,13 +3,14 @@ use mathlib.Core.Path.{_≡_, refl, sym, ap, _∙_}
 use mathlib.Core.Bool.{true, false, _&&_, not}
 use mathlib.Core.List.{List, [], _∷_}
 use mathlib.Core.Logic.{_↔_}
-use Prim.Native.Nat.{ℕ, _<_}
+use Prim.Native.Nat.{ℕ, _+_}
+use lib.ListN.{drop}
 use Rattle.refusals.specs.declared.Refusal.the-variants.{BrokenSlot}
 use Rattle.refusals.specs.declared.Verdict.{Verdict}
 use Rattle.refusals.specs.declared.Verdict.the-variants.{Good}
 use Rattle.refusals.specs.declared.Told.{Told}
 use Rattle.refusals.specs.Numbers.{among}
-use Rattle.refusals.specs.Order.{orElse, firstOf}
+use Rattle.refusals.specs.Order.{firstOf}
 use Rattle.refusals.proofs.Numbered.{checks-zero}
 use Rattle.refusals.proofs.Within.{Tells, tells-when, tells-orElse, tells-firstOf, other}
 use Rattle.coded.specs.Coded.{readVerdict}
@@ -17,7 +18,7 @@ use Rattle.places.specs.Items.{rowAt, rowsIn}
 use Rattle.refusals.proofs.Order.{orElse-good, good-orElse, first-all, all-first}
 use Rattle.counts.specs.Counts.{listVerdict}
 use Rattle.counts.proofs.Numbers.{passes-good, list-tells, read-tells}
-use Rattle.slots.specs.Slots.{opens, filled, slotsOf, slotVerdict, slotCheckOf, Filled, Checks, slotNumbers}
+use Rattle.slots.specs.Slots.{opens, items, unlabelled, filled, slotVerdict, slotCheckOf, Filled, Checks, slotNumbers}
 
 module _ (rows names : List ℕ) where
   abbrev slot : ℕ → Verdict
@@ -33,7 +34,7 @@ module _ (rows names : List ℕ) where
       )
 
   slot-tells : (i : ℕ) → Tells slotNumbers (slot i)
-  slot-tells i = tells-when slotNumbers (opens (rowAt rows names i) && not (filled (rowAt rows names) (rowsIn rows) (slotsOf i))) (BrokenSlot i) refl
+  slot-tells i = tells-when slotNumbers (opens (rowAt rows names i) && not (filled (unlabelled (drop (i + 1) (items (rowAt rows names) (rowsIn rows)))))) (BrokenSlot i) refl
 
   -- ---- THE THEOREMS
   module _ {told : Told} (c : Checks rows names told) where

@@ -1,10 +1,11 @@
 -- What the pass keeps in mind after i rows says how the slots of the jumps before i stand.
-use mathlib.Core.Path.{_≡_, refl, sym, subst}
+use mathlib.Core.Path.{_≡_, refl, sym, ap, _∙_, subst}
 use mathlib.Core.Bool.{Bool, true, false, cond, and-false}
+use mathlib.Core.List.{List, [], _∷_, _++_}
 use Prim.Native.Nat.{ℕ, _+_, _≤_, _<_}
+use lib.ListN.{drop}
 use native.Mathlib.Omega.{arith}
 use borrow.Author.Count.{below-more}
-use borrow.Author.Tests.{lt-ltb, le-ltb}
 use Rattle.refusals.specs.declared.Refusal.{Refusal}
 use Rattle.refusals.specs.declared.Refusal.the-variants.{BrokenSlot}
 use Rattle.refusals.specs.declared.Verdict.{Verdict}
@@ -16,54 +17,52 @@ use Rattle.refusals.proofs.Order.{AllPass, all-first, stop-first}
 use Rattle.coded.specs.Coded.{readVerdict}
 use Rattle.slots.specs.declared.Watch.{Watch}
 use Rattle.slots.specs.declared.Watch.the-variants.{Free, Both, Second, Broken}
-use Rattle.slots.specs.Slots.{opens, fills, filled, slotsOf, slotVerdict}
+use Rattle.slots.specs.Slots.{opens, fills, items, label, unlabelled, filled, slotVerdict}
 use Rattle.slots.specs.Watch.{after, ending}
-use Rattle.slots.proofs.Others.{fills-opens}
+use Rattle.slots.proofs.Others.{label-reads, fills-opens}
+use Rattle.slots.proofs.Items.{items-from, items-end}
 
 module _ (it : ℕ → Coded) (n : ℕ) where
   abbrev slot : ℕ → Verdict
   slot j = slotVerdict it n j
 
+  -- ---- the items from row i on, labels left out
+  abbrev rest : ℕ → List Coded
+  rest i = unlabelled (drop i (items it n))
+
+  rest-label : (i : ℕ) → i < n → label (it i) ≡ true → rest i ≡ rest (i + 1)
+  rest-label i l e = ap unlabelled (items-from it n i l) ∙ rw e
+
+  rest-item : (i : ℕ) → i < n → label (it i) ≡ false → rest i ≡ it i ∷ rest (i + 1)
+  rest-item i l e = ap unlabelled (items-from it n i l) ∙ rw e
+
+  rest-none : rest n ≡ []
+  rest-none = ap unlabelled (items-end it n)
+
   -- ---- the verdict of the jump in row j
   slot-none : (j : ℕ) → opens (it j) ≡ false → slot j ≡ Good
   slot-none j e = rw e
 
-  slot-filled : (j : ℕ) → filled it n (slotsOf j) ≡ true → slot j ≡ Good
+  slot-filled : (j : ℕ) → filled (rest (j + 1)) ≡ true → slot j ≡ Good
   slot-filled j e = rw (e, and-false)
 
-  slot-broken : (j : ℕ) → opens (it j) ≡ true → filled it n (slotsOf j) ≡ false → slot j ≡ Refused (BrokenSlot j)
+  slot-broken : (j : ℕ) → opens (it j) ≡ true → filled (rest (j + 1)) ≡ false → slot j ≡ Refused (BrokenSlot j)
   slot-broken j o e = rw (o, e)
 
-  -- ---- its slots
-  first-missing : (j : ℕ) → n ≤ j + 1 → filled it n (slotsOf j) ≡ false
-  first-missing j h = rw (le-ltb (j + 1) n h)
-
-  first-wrong : (j : ℕ) → fills (it (j + 1)) ≡ false → filled it n (slotsOf j) ≡ false
-  first-wrong j e = rw (e, and-false)
-
-  second-missing : (j : ℕ) → n ≤ j + 2 → filled it n (slotsOf j) ≡ false
-  second-missing j h = rw (le-ltb (j + 2) n h) (simp and-false)
-
-  second-wrong : (j : ℕ) → fills (it (j + 2)) ≡ false → filled it n (slotsOf j) ≡ false
-  second-wrong j e = rw e (simp and-false)
-
-  both-right : (j : ℕ) → j + 2 < n → fills (it (j + 1)) ≡ true → fills (it (j + 2)) ≡ true → filled it n (slotsOf j) ≡ true
-  both-right j h a b = rw (lt-ltb (j + 1) n (omega arith), a, lt-ltb (j + 2) n h, b)
+  first-wrong : (x : Coded) (xs : List Coded) → fills x ≡ false → filled (x ∷ xs) ≡ false
+  first-wrong x [] e = refl
+  first-wrong x (y ∷ ys) e = rw e
 
   upto-next : (i : ℕ) → AllPass slot i → slot i ≡ Good → AllPass slot (i + 1)
   upto-next i s e = below-more (λ (k : ℕ). slot k ≡ Good) i s e
 
-  -- the row i is both slots', or the second slot's, of the jump in row j
-  pub record AtBoth (i j : ℕ) : Type 0 where
-    pub next : i ≡ j + 1
+  -- the slots of the jump in row j, of which these are seen, go on in row i
+  pub record Awaits (i j : ℕ) (seen : List Coded) : Type 0 where
+    pub there : j < n
     pub before : AllPass slot j
     pub jump : opens (it j) ≡ true
-
-  pub record AtSecond (i j : ℕ) : Type 0 where
-    pub next : i ≡ j + 2
-    pub before : AllPass slot j
-    pub jump : opens (it j) ≡ true
-    pub first : fills (it (j + 1)) ≡ true
+    pub later : slot j ≡ Good → AllPass slot i
+    pub slots : rest (j + 1) ≡ seen ++ rest i
 
   pub record IsBroken (j : ℕ) : Type 0 where
     pub there : j < n
@@ -72,46 +71,58 @@ module _ (it : ℕ → Coded) (n : ℕ) where
 
   abbrev pub Seen : ℕ → Watch → Type 0
   Seen i Free = AllPass slot i
-  Seen i (Both j) = AtBoth i j
-  Seen i (Second j) = AtSecond i j
+  Seen i (Both j) = Awaits i j []
+  Seen i (Second j) = (x : Coded) × (fills x ≡ true) × Awaits i j (x ∷ [])
   Seen i (Broken j) = IsBroken j
 
+  is-broken : {i j : ℕ} {seen : List Coded} → Awaits i j seen → filled (rest (j + 1)) ≡ false → IsBroken j
+  is-broken {j = j} s e = record { there = s .there; before = s .before; broken = slot-broken j (s .jump) e }
+
   module _ {i : ℕ} (l : i < n) where
+    -- row i has no slots, and these follow then
+    goes-on : {j : ℕ} {old new : List Coded} → Awaits i j old → opens (it i) ≡ false → old ++ rest i ≡ new ++ rest (i + 1) → Awaits (i + 1) j new
+    goes-on s o e = record { there = s .there; before = s .before; jump = s .jump; later = λ g. upto-next i (s .later g) (slot-none i o); slots = s .slots ∙ e }
+
+    -- ---- a label
+    passed : {j : ℕ} (seen : List Coded) → Awaits i j seen → label (it i) ≡ true → Awaits (i + 1) j seen
+    passed seen s e = goes-on s (label-reads (it i) e .1) (ap (λ (y : List Coded). seen ++ y) (rest-label i l e))
+
+    seen-label : label (it i) ≡ true → (w : Watch) → Seen i w → Seen (i + 1) w
+    seen-label e Free s = upto-next i s (slot-none i (label-reads (it i) e .1))
+    seen-label e (Both j) s = passed [] s e
+    seen-label e (Second j) s = (s .0, s .1, passed (s .0 ∷ []) (s .2) e)
+    seen-label e (Broken j) s = s
+
+    -- ---- any other item
     free-next : AllPass slot i → (b : Bool) → opens (it i) ≡ b → Seen (i + 1) (cond b (Both i) Free)
-    free-next s true e = record { next = refl; before = s; jump = e }
+    free-next s true e = record { there = l; before = s; jump = e; later = λ g. upto-next i s g; slots = refl }
     free-next s false e = upto-next i s (slot-none i e)
 
-    both-next : {j : ℕ} → AtBoth i j → (b : Bool) → fills (it i) ≡ b → Seen (i + 1) (cond b (Second j) (Broken j))
-    both-next {j} s true e = record { next = omega (arith, s .next); before = s .before; jump = s .jump; first = rw (← s .next) e }
-    both-next {j} s false e =
-        let wrong : fills (it (j + 1)) ≡ false = rw (← s .next) e in
-        record { there = omega (arith, s .next); before = s .before; broken = slot-broken j (s .jump) (first-wrong j wrong) }
+    module _ (no : label (it i) ≡ false) where
+      both-next : {j : ℕ} → Awaits i j [] → (b : Bool) → fills (it i) ≡ b → Seen (i + 1) (cond b (Second j) (Broken j))
+      both-next s true e = (it i, e, goes-on s (fills-opens (it i) e) (rest-item i l no))
+      both-next s false e = is-broken s (ap filled (s .slots ∙ rest-item i l no) ∙ first-wrong (it i) (rest (i + 1)) e)
 
-    second-next : {j : ℕ} → AtSecond i j → (b : Bool) → fills (it i) ≡ b → Seen (i + 1) (cond b Free (Broken j))
-    second-next {j} s true e =
-        let right : fills (it (j + 2)) ≡ true = rw (← s .next) e in
-        let one = upto-next j (s .before) (slot-filled j (both-right j (omega (arith, s .next)) (s .first) right)) in
-        let two = upto-next (j + 1) one (slot-none (j + 1) (fills-opens (it (j + 1)) (s .first))) in
-        let at : j + 1 + 1 ≡ i = omega (arith, s .next) in
-        upto-next i (subst (λ (k : ℕ). AllPass slot k) at two) (slot-none i (fills-opens (it i) e))
-    second-next {j} s false e =
-        let wrong : fills (it (j + 2)) ≡ false = rw (← s .next) e in
-        record { there = omega (arith, s .next); before = s .before; broken = slot-broken j (s .jump) (second-wrong j wrong) }
+      second-next : {j : ℕ} (x : Coded) → fills x ≡ true → Awaits i j (x ∷ []) → (b : Bool) → fills (it i) ≡ b → Seen (i + 1) (cond b Free (Broken j))
+      second-next {j} x f s true e =
+          let right : filled (rest (j + 1)) ≡ true = ap filled (s .slots ∙ ap (λ (y : List Coded). x ∷ y) (rest-item i l no)) ∙ rw (f, e) in
+          upto-next i (s .later (slot-filled j right)) (slot-none i (fills-opens (it i) e))
+      second-next x f s false e = is-broken s (ap filled (s .slots ∙ ap (λ (y : List Coded). x ∷ y) (rest-item i l no)) ∙ rw (f, e))
 
-    seen-next : (w : Watch) → Seen i w → Seen (i + 1) (after w (it i) i)
-    seen-next Free s = free-next s (opens (it i)) refl
-    seen-next (Both j) s = both-next s (fills (it i)) refl
-    seen-next (Second j) s = second-next s (fills (it i)) refl
-    seen-next (Broken j) s = s
+      seen-next : (w : Watch) → Seen i w → Seen (i + 1) (after w (it i) i)
+      seen-next Free s = free-next s (opens (it i)) refl
+      seen-next (Both j) s = both-next s (fills (it i)) refl
+      seen-next (Second j) s = second-next (s .0) (s .1) (s .2) (fills (it i)) refl
+      seen-next (Broken j) s = s
 
-  broken-first : {j : ℕ} → j < n → AllPass slot j → slot j ≡ Refused (BrokenSlot j) → Refused (BrokenSlot j) ≡ firstOf slot n
-  broken-first {j} l b e = sym (stop-first slot n (record { row = j; why = BrokenSlot j; before = l; fails = e; earlier = b }))
+  broken-first : {j : ℕ} → IsBroken j → Refused (BrokenSlot j) ≡ firstOf slot n
+  broken-first {j} s = sym (stop-first slot n (record { row = j; why = BrokenSlot j; before = s .there; fails = s .broken; earlier = s .before }))
 
   seen-end : (w : Watch) → Seen n w → ending w ≡ firstOf slot n
   seen-end Free s = sym (all-first slot n s)
-  seen-end (Both j) s = broken-first (omega (arith, s .next)) (s .before) (slot-broken j (s .jump) (first-missing j (omega (arith, s .next))))
-  seen-end (Second j) s = broken-first (omega (arith, s .next)) (s .before) (slot-broken j (s .jump) (second-missing j (omega (arith, s .next))))
-  seen-end (Broken j) s = broken-first (s .there) (s .before) (s .broken)
+  seen-end (Both j) s = broken-first (is-broken s (ap filled (s .slots ∙ rest-none)))
+  seen-end (Second j) s = broken-first (is-broken (s .2) (ap filled (s .2 .slots ∙ ap (λ (y : List Coded). s .0 ∷ y) rest-none)))
+  seen-end (Broken j) s = broken-first s
 
   -- ---- the pass after i rows
   abbrev row : ℕ → Verdict
@@ -124,8 +135,14 @@ module _ (it : ℕ → Coded) (n : ℕ) where
     pub seen : Seen i w
 
   module _ {i : ℕ} {w : Watch} (g : Watching i w) where
-    pub watching-next : i < n → row i ≡ Good → Watching (i + 1) (after w (it i) i)
-    watching-next l e = record { few = g .few; within = omega arith; good = below-more (λ (k : ℕ). row k ≡ Good) i (g .good) e; seen = seen-next l w (g .seen) }
+    goes : i < n → row i ≡ Good → {v : Watch} → Seen (i + 1) v → Watching (i + 1) v
+    goes l e s = record { few = g .few; within = omega arith; good = below-more (λ (k : ℕ). row k ≡ Good) i (g .good) e; seen = s }
+
+    pub watching-label : i < n → label (it i) ≡ true → Watching (i + 1) w
+    watching-label l e = goes l (label-reads (it i) e .0) (seen-label l e w (g .seen))
+
+    pub watching-next : i < n → (row i ≡ Good) × (label (it i) ≡ false) → Watching (i + 1) (after w (it i) i)
+    watching-next l e = goes l (e .0) (seen-next l (e .1) w (g .seen))
 
     pub watching-stop : i < n → {r : Refusal} → it i ≡ coded.Refused r → firstOf row n ≡ Refused r
     watching-stop l {r} e = stop-first row n (record { row = i; why = r; before = l; fails = rw e; earlier = g .good })

@@ -1,2 +1,4 @@
 pub mod Slots
 pub mod Watch
+pub mod WithoutLabels
+pub mod Kernels

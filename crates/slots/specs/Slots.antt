@@ -1,9 +1,10 @@
--- Document 01, "Slot check".
+-- Document 01, "Slot check", and document 02, wish 1: "It should read the next two items that are not labels."
 use mathlib.Core.Path.{_≡_}
-use mathlib.Core.Bool.{Bool, true, false, _&&_, not}
+use mathlib.Core.Bool.{Bool, false, cond, _&&_, not}
 use mathlib.Core.List.{List, [], _∷_, _++_}
-use Prim.Native.Nat.{ℕ, _+_, _<_}
-use lib.Dec.{ltb}
+use Prim.Native.Nat.{ℕ, zero, suc, _+_, _<_}
+use lib.ListN.{drop}
+use lib.Dec.{eqb}
 use Rattle.refusals.specs.declared.Refusal.the-variants.{BrokenSlot}
 use Rattle.refusals.specs.declared.Verdict.{Verdict}
 use Rattle.refusals.specs.declared.Verdict.the-variants.{Good}
@@ -13,7 +14,7 @@ use Rattle.refusals.specs.Order.{when, orElse, firstOf}
 use Rattle.items.specs.Kinds.{isBranch, hasSlots}
 use Rattle.coded.specs.declared.Coded.{Coded}
 use Rattle.coded.specs.Coded.{ofInstruction, readVerdict}
-use Rattle.places.specs.Items.{rowAt, rowsIn}
+use Rattle.places.specs.Items.{rowAt, rowsIn, isLabel}
 use Rattle.counts.specs.Counts.{listVerdict, Passes}
 
 -- "each delayed `JumpRelative` and each `CJump`"
@@ -24,18 +25,28 @@ opens x = ofInstruction (λ y. hasSlots (y .kind)) false x
 abbrev pub fills : Coded → Bool
 fills x = ofInstruction (λ y. not (isBranch (y .kind))) false x
 
--- "the next two items": the rows of the slots of the jump in row i
-abbrev pub slotsOf : ℕ → List ℕ
-slotsOf i = (i + 1) ∷ (i + 2) ∷ []
+-- the items of n rows
+abbrev pub items : (ℕ → Coded) → ℕ → List Coded
+items it zero = []
+items it (suc n) = items it n ++ (it n ∷ [])
 
--- they "must exist and be instruction items .."
-abbrev pub filled : (ℕ → Coded) → ℕ → List ℕ → Bool
-filled it n [] = true
-filled it n (k ∷ ks) = ltb k n && (fills (it k) && filled it n ks)
+-- "items that are not labels"
+abbrev pub label : Coded → Bool
+label x = eqb (isLabel x) 1
+
+abbrev pub unlabelled : List Coded → List Coded
+unlabelled [] = []
+unlabelled (x ∷ xs) = cond (label x) (unlabelled xs) (x ∷ unlabelled xs)
+
+-- "the next two" of them "must exist and be instruction items .."
+abbrev pub filled : List Coded → Bool
+filled [] = false
+filled (x ∷ []) = false
+filled (x ∷ y ∷ rest) = fills x && fills y
 
 -- 33 with the row of the jump
 abbrev pub slotVerdict : (ℕ → Coded) → ℕ → ℕ → Verdict
-slotVerdict it n i = when (opens (it i) && not (filled it n (slotsOf i))) (BrokenSlot i)
+slotVerdict it n i = when (opens (it i) && not (filled (unlabelled (drop (i + 1) (items it n))))) (BrokenSlot i)
 
 -- "Refusals: 1, then the first row refusal, then 33 for the first such jump."
 abbrev pub slotCheckOf : List ℕ → List ℕ → Verdict

@@ -1,4 +1,4 @@
-// The slot check: what stands after each delayed jump.
+// The slot check: what stands after each delayed jump, labels left out.
 ghost use mathlib.Core.Path.{_≡_};
 ghost use Rattle.refusals.specs.Numbers.{checked};
 ghost use Rattle.slots.specs.Slots.{opens, fills, Checks};
@@ -77,8 +77,8 @@ impl Watch {
     }
 }
 
-// Whether the two items after each delayed jump may stand there; else the first row that is refused, or the row of the
-// first jump whose slots are broken.
+// Whether the two items after each delayed jump, labels left out, may stand there; else the first row that is refused, or
+// the row of the first jump whose slots are broken.
 pub fn slot_check(rows: &[u32], names: &[u8]) -> Verdict
     ensures { λ r. ⌜ Checks (now (rows .entry)) (now (names .entry)) (checked r) ⌝ }
 {
@@ -94,6 +94,7 @@ pub fn slot_check(rows: &[u32], names: &[u8]) -> Verdict
             Coded::Refused(r) => {
                 return Verdict::Refused(r);
             }
+            Coded::Label { .. } => {}
             _ => {
                 watch = watch.after(row, i as u32);
             }

@@ -1,5 +1,6 @@
 -- What is kept in mind after i rows is `Watching`'s.
 use mathlib.Core.Path.{sym, ap, _∙_}
+use mathlib.Core.Logic.{⊎-elim}
 use Prim.Native.Nat.{_-_}
 use borrow.Author.Count.{below-none}
 use borrow.Author.Tests.{not-false}
@@ -7,8 +8,9 @@ use borrow.Author.Needs.{needs}
 use Rattle.refusals.specs.Numbers.{checked}
 use Rattle.rows.proofs.Limit.{rows-few}
 use Rattle.places.specs.Items.{rowAt}
+use Rattle.slots.specs.Slots.{label}
 use Rattle.slots.proofs.Others.{is-read}
-use Rattle.slots.proofs.Watching.{Watching, watching-next, watching-stop, watching-end}
+use Rattle.slots.proofs.Watching.{Watching, watching-label, watching-next, watching-stop, watching-end}
 use Rattle.slots.proofs.slot_check.Statement.{statement}
 use Rattle.slots.proofs.slot_check.Tie as tie
 
@@ -36,6 +38,9 @@ enum-known-row c = search needs
 returns-2 : tie.Need-returns-2 Inv-loop μ-loop
 returns-2 c = let row = sym (c .before .before .before .coded-at .ensures) ∙ c .before .row .given .1 in rw (← c .before .before .before .before .before .before .before .well-formed .ensures, not-false (c .before .before .before .before .before .before .before .well-formed .result) (c .before .before .before .before .before .before .if1 .left), watching-stop _ _ (c .before .before .before .before .before .loop .inv) (c .before .before .before .before .loop-test .taken) row)
 
+enum-told : tie.Need-enum-told Inv-loop μ-loop
+enum-told c = search needs
+
 cast-after : tie.Need-cast-after Inv-loop μ-loop
 cast-after c = search needs
 
@@ -49,7 +54,14 @@ loop-less : tie.Need-loop-less Inv-loop μ-loop
 loop-less c = search needs
 
 loop-again : tie.Need-loop-again Inv-loop μ-loop
-loop-again c = let row = c .before .before .coded-at .ensures in rw (c .after .ensures, row) (watching-next _ _ (c .before .before .before .before .loop .inv) (c .before .before .before .loop-test .taken) (rw row at (is-read (c .before .before .coded-at .result) (c .before .match .keys2))))
+loop-again c =
+    let row = c .before .coded-at .ensures in
+    let inv = c .before .before .before .loop .inv in
+    let l = c .before .before .loop-test .taken in
+    ⊎-elim
+    (λ w. rw (w .2) (watching-label _ _ inv l (ap label (sym row ∙ w .1 .given .1))))
+    (λ w. rw (w .2, w .1 .ensures, row) (watching-next _ _ inv l (rw row at (is-read (c .before .coded-at .result) (w .0 .keys3)))))
+    (c .match .came)
 
 ending-requires : tie.Need-ending-requires Inv-loop μ-loop
 ending-requires c κs = search needs
@@ -69,6 +81,7 @@ slot-check-spec =
     coded-at-requires
     enum-known-row
     returns-2
+    enum-told
     cast-after
     after-requires
     add-i

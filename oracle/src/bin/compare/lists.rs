@@ -10,6 +10,7 @@ use visa_oracle::lists::some_case;
 use visa_oracle::sample_lists;
 use visa_oracle::search::Search;
 use visa_oracle::shrink;
+use visa_oracle::slot_lists::SlotLists;
 
 use crate::calls::CALLS;
 use crate::options::Options;
@@ -22,20 +23,30 @@ pub struct Tally {
     pub asked: AtomicU64,
 }
 
-/// Compares the sample, the lists at the limits, and random ones. Whether there was no difference.
+/// Compares the sample, the lists at the limits, those around slots, and random ones. Whether there
+/// was no difference.
 pub fn compare(options: &Options, count: u64) -> bool {
     let tally = Tally::default();
-    let chosen = chosen(options.short);
+    let (chosen, slotted) = (chosen(options.short), SlotLists::new(options.short));
     let seed = options.seed;
+    let search = |count, make: &(dyn Fn(u64) -> Case + Sync)| {
+        let search =
+            Search { what: "compare lists", count, jobs: options.jobs, progress: PROGRESS };
+        let found = search.first(|case| differs(&make(case), &tally).then_some(()));
+        found.map(|(number, ())| (number, make(number)))
+    };
     let found = chosen
         .iter()
         .find_map(|(name, make)| differs(&make(), &tally).then(|| (name.clone(), make())));
     eprintln!("compare lists: {} chosen lists", chosen.len());
     let found = found.or_else(|| {
-        let search =
-            Search { what: "compare lists", count, jobs: options.jobs, progress: PROGRESS };
-        let found = search.first(|case| differs(&some_case(seed, case), &tally).then_some(()));
-        found.map(|(case, ())| (format!("seed {seed}, case {case}"), some_case(seed, case)))
+        let found = search(slotted.count(), &|number| slotted.case(number));
+        eprintln!("compare lists: {} lists around slots", slotted.count());
+        found.map(|(number, case)| (format!("list {number} around slots"), case))
+    });
+    let found = found.or_else(|| {
+        let found = search(count, &|number| some_case(seed, number));
+        found.map(|(number, case)| (format!("seed {seed}, case {number}"), case))
     });
     if let Some((name, case)) = found {
         report(case, &name);
@@ -43,7 +54,7 @@ pub fn compare(options: &Options, count: u64) -> bool {
     }
     println!(
         "compare lists: {} lists compared, {} of them put before the Rust, seed {seed}, no difference",
-        chosen.len() as u64 + count,
+        chosen.len() as u64 + slotted.count() + count,
         tally.asked.into_inner()
     );
     true
