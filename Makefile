@@ -55,7 +55,7 @@ compare-short: link ## the same on fewer inputs, a minute or two
 	@$(X86_64) $(ORACLE)/compare all --short
 	@sh include/test
 
-check-memory: link ## run the comparison on few inputs under valgrind, a minute
+check-memory: link ## run the comparison on few inputs under valgrind, some minutes
 	@LINK_LIB=target/staticlib sh oracle/build compare
 	@sh include/test
 	@sh oracle/check-memory
