@@ -18,10 +18,13 @@ run: ## build the bench program and run it on KERNEL (default: examples/branch.k
 test: ## the verdict: prove every crate from nothing, try the must-fail edits, run the programs
 	@rt ci
 
-docs: ## print anew what the documents take from the tree: docs/FORMS.md, its pictures, the tables of docs/PROVED.md and docs/ARCHITECTURE.md
+docs: ## print anew what the documents take from the tree: docs/FORMS.md, its pictures, the tables of docs/PROVED.md and docs/ARCHITECTURE.md; and from a run: docs/ENGINES.md
 	@python3 tools/forms
 	@python3 tools/believed
 	@python3 tools/map
+	@mkdir -p target
+	@rt check engines >target/docs.log || ! grep 'NOT PROVED' target/docs.log
+	@python3 tools/engines
 
 walks: ## print anew the proofs of the functions that hold the lent loop records
 	@python3 tools/walks
@@ -32,8 +35,9 @@ docs-check: ## check that the documents, and the printed proofs, are what the de
 	@python3 tools/believed --check
 	@python3 tools/map --check
 	@mkdir -p target
-	@rt check bench layouts >target/docs-check.log || { tail -n 5 target/docs-check.log; exit 1; }
+	@rt check bench layouts engines >target/docs-check.log || { tail -n 5 target/docs-check.log; exit 1; }
 	@python3 tools/examples
+	@python3 tools/engines --check
 
 oracle: ## build the driver over the original Rust (QC_ASM=folder of its sources)
 	@sh oracle/build
@@ -44,7 +48,7 @@ link: ## prove the library and write target/staticlib/liblink.a
 sample: oracle ## make the stored answers of the original Rust anew
 	@sh oracle/store
 
-compare: link ## hold the port against the original Rust: rows, lists, the Rust crate and the C example, some minutes
+compare: link ## hold the port against the original Rust: rows, lists by both engines, the Rust crate and the C example, some minutes
 	@LINK_LIB=target/staticlib sh oracle/build compare
 	@$(X86_64) $(ORACLE)/compare all
 	@sh include/test
@@ -60,7 +64,7 @@ check-memory: link ## run the comparison on few inputs under valgrind, some minu
 	@sh include/test
 	@sh oracle/check-memory
 
-speed: link ## time the port against the original Rust, and write docs/SPEED.md and its plot; on another processor than x86-64 count instructions
+speed: link ## time both engines of the port and the original Rust, and write docs/SPEED.md and its plot; on another processor than x86-64 count instructions
 ifeq ($(X86_64),)
 	@LINK_LIB=target/staticlib sh oracle/build compare
 	@$(ORACLE)/compare speed --write docs

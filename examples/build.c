@@ -1,14 +1,17 @@
 /*
  * Builds a small kernel through the C interface and prints its parcels and bytes; then one whose
- * jump leads nowhere, and prints the refusal with its name. Checks the slots of delayed jumps.
+ * jump leads nowhere, and prints the refusal with its name. Checks the slots of delayed jumps. Builds
+ * both kernels by both engines, and compares what they answer and leave.
  */
 #include <inttypes.h>
 #include <stdio.h>
+#include <string.h>
 
 #include "lhodrupesh.h"
 
 #define LENGTH(array) (sizeof(array) / sizeof((array)[0]))
 #define NUMBERS(rows) (LENGTH(rows) * LHODRUPESH_ROW)
+#define PARCELS 64
 
 static const uint8_t names[] = "topend";
 
@@ -40,18 +43,28 @@ static const uint32_t labelled_slot[][LHODRUPESH_ROW] = {
 /* The same with a loop end there, which leaves the slot unfilled. */
 static const uint32_t broken_slot[][LHODRUPESH_ROW] = {{38}, {28, 5, 5, 1}, {38}, {51}, {38}};
 
-static uint16_t parcels[64];
-static uint32_t labels[8 * LHODRUPESH_LABEL_ENTRY];
-static uint32_t jumps[8 * LHODRUPESH_JUMP_ENTRY];
-static struct lhodrupesh_loop loops[4];
+/* What a build is lent. */
+struct lent {
+    uint16_t parcels[PARCELS];
+    uint32_t labels[8 * LHODRUPESH_LABEL_ENTRY];
+    uint32_t jumps[8 * LHODRUPESH_JUMP_ENTRY];
+    struct lhodrupesh_loop loops[4];
+};
 
-static struct lhodrupesh_told build(const uint32_t *rows, size_t rows_len)
+/* The type of both engines. */
+typedef struct lhodrupesh_told engine(const uint32_t *, size_t, const uint8_t *, size_t, uint16_t *,
+                                      size_t, uint32_t *, size_t, uint32_t *, size_t,
+                                      struct lhodrupesh_loop *, size_t);
+
+static struct lhodrupesh_told build(engine *by, const uint32_t *rows, size_t rows_len,
+                                    struct lent *lent)
 {
-    return lhodrupesh_build(rows, rows_len, names, sizeof names - 1, parcels, LENGTH(parcels),
-                            labels, LENGTH(labels), jumps, LENGTH(jumps), loops, LENGTH(loops));
+    return by(rows, rows_len, names, sizeof names - 1, lent->parcels, LENGTH(lent->parcels),
+              lent->labels, LENGTH(lent->labels), lent->jumps, LENGTH(lent->jumps), lent->loops,
+              LENGTH(lent->loops));
 }
 
-static void print_parcels(uint32_t count)
+static void print_parcels(const uint16_t *parcels, uint32_t count)
 {
     printf("%" PRIu32 " parcels:", count);
     for (uint32_t place = 0; place < count; place++)
@@ -59,9 +72,9 @@ static void print_parcels(uint32_t count)
     printf("\n");
 }
 
-static void print_bytes(uint32_t count)
+static void print_bytes(const uint16_t *parcels, uint32_t count)
 {
-    uint8_t bytes[2 * LENGTH(parcels)];
+    uint8_t bytes[2 * PARCELS];
     struct lhodrupesh_written written = lhodrupesh_bytes(parcels, count, bytes, sizeof bytes);
 
     printf("%" PRIu64 " bytes:", written.bytes);
@@ -101,14 +114,33 @@ static void print_refusal(struct lhodrupesh_told told)
 
 static void print_built(const uint32_t *rows, size_t rows_len)
 {
-    struct lhodrupesh_told told = build(rows, rows_len);
+    struct lent lent;
+    struct lhodrupesh_told told = build(lhodrupesh_build, rows, rows_len, &lent);
 
     if (told.number != 0) {
         print_refusal(told);
         return;
     }
-    print_parcels(told.count);
-    print_bytes(told.count);
+    print_parcels(lent.parcels, told.count);
+    print_bytes(lent.parcels, told.count);
+}
+
+/* By both engines, over memory that holds the same before. */
+static void print_engines(const uint32_t *rows, size_t rows_len)
+{
+    struct lent left[2];
+    struct lhodrupesh_told told[2];
+
+    memset(left, 0x55, sizeof left);
+    told[0] = build(lhodrupesh_build, rows, rows_len, &left[0]);
+    told[1] = build(lhodrupesh_build_plain, rows, rows_len, &left[1]);
+    if (memcmp(&told[0], &told[1], sizeof told[0]) != 0)
+        printf("the engines answer differently\n");
+    else if (memcmp(&left[0], &left[1], sizeof left[0]) != 0)
+        printf("the engines leave different memory\n");
+    else
+        printf("both engines: number %" PRIu32 ", %" PRIu32 " parcels, the same memory\n",
+               told[0].number, told[0].count);
 }
 
 static void print_one(const uint32_t *row)
@@ -128,5 +160,7 @@ int main(void)
     print_built(astray[0], NUMBERS(astray));
     print_slots(labelled_slot[0], NUMBERS(labelled_slot));
     print_slots(broken_slot[0], NUMBERS(broken_slot));
+    print_engines(astray[0], NUMBERS(astray));
+    print_engines(count_down[0], NUMBERS(count_down));
     return 0;
 }

@@ -108,6 +108,19 @@ struct lhodrupesh_told lhodrupesh_build(const uint32_t *rows, size_t rows_len,
                                         struct lhodrupesh_loop *loops, size_t loops_len);
 
 /*
+ * The same build by a second, plain engine, to learn from and to hold the first against. It goes over
+ * the rows in two walks: the first places every item and finds every loop's end, the second writes each
+ * parcel once. It is slower. It takes the same arguments, and for all input it answers the same and
+ * leaves the same in all that is lent.
+ */
+struct lhodrupesh_told lhodrupesh_build_plain(const uint32_t *rows, size_t rows_len,
+                                              const uint8_t *names, size_t names_len,
+                                              uint16_t *parcels, size_t parcels_len,
+                                              uint32_t *labels, size_t labels_len,
+                                              uint32_t *jumps, size_t jumps_len,
+                                              struct lhodrupesh_loop *loops, size_t loops_len);
+
+/*
  * How many parcels a list takes. Refused: 1; in the first row that has either, the row refusal (2, 4,
  * and 17 to 19 from compute construction), then what keeps its instruction from encoding. The rules
  * of labels, jumps and loops are ignored.

@@ -1,4 +1,4 @@
-"""What tools/map and tools/believed read off the tree: the crates and their groups, what a source declares, and the printed parts of a page."""
+"""What tools/map, tools/believed and tools/engines read off the tree: the crates and their groups, what a source declares, and the printed parts of a page."""
 import functools
 import glob
 import os

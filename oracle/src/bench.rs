@@ -67,7 +67,7 @@ fn answer(list: List) -> String {
     let (told, mut buffers) = cases::second(&case);
     let parcels = buffers.parcels.lent();
     if let Some(program) = judge::program(&case.list, &told) {
-        let difference = judge::difference(&program, &case.list.names, &told, parcels);
+        let difference = judge::difference(&program.parcels(), &case.list.names, &told, parcels);
         assert_eq!(difference, None, "the second reading says {told:?} of\n{}", case.text());
     }
     printed(&told, parcels)

@@ -47,16 +47,16 @@ pub fn program(list: &List, told: &Told) -> Option<VisaProgram> {
     list.program()?.ok()
 }
 
-/// How a build's answer, with the parcels it left in front, differs from the Rust's.
+/// How a build's answer, with the parcels it left in front, differs from what the Rust built.
 pub fn difference(
-    program: &VisaProgram,
+    rust: &Result<Vec<u16>, VisaError>,
     names: &[u8],
     told: &Told,
     parcels: &[u16],
 ) -> Option<String> {
-    let (expected, name) = match program.parcels() {
-        Ok(rust) => return accepted_difference(&rust, told, parcels),
-        Err(error) => (Refusal::from(&error), refusal::name(&error).map(str::to_string)),
+    let (expected, name) = match rust {
+        Ok(rust) => return accepted_difference(rust, told, parcels),
+        Err(error) => (Refusal::from(error), refusal::name(error)),
     };
     let met = Refusal::with(told.number, told.first, told.second);
     if met != expected || told.count != 0 {

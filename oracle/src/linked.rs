@@ -52,25 +52,41 @@ mod lists {
     }
 }
 
+/// The port's builds of a list: its two engines, each by the module for C and by the plain
+/// interface.
 pub mod whole {
     use lhodrupesh::c;
-    use lhodrupesh::plain::{self, LoopRecord};
+    use lhodrupesh::plain::{self, LoopRecord, Refusal};
 
     use super::lists::{of_plain, told};
     use crate::list::List;
     use crate::second::{Lent, Record, Told};
 
-    /// The port's build.
-    pub fn build(list: &List, lent: &mut Lent) -> Told {
+    /// An engine, as the module for C has it.
+    pub type OfC =
+        fn(&[u32], &[u8], &mut [u16], &mut [u32], &mut [u32], &mut [LoopRecord]) -> c::Told;
+    /// An engine, as the plain interface has it.
+    type OfCrate = fn(&[u32], &[u8], &mut plain::Lent) -> Result<usize, Refusal>;
+
+    /// What a build is called in a report, and its call.
+    pub type Build = (&'static str, fn(&List, &mut Lent) -> Told);
+
+    pub const BUILDS: [Build; 4] = [
+        ("the quick engine by C", |list, lent| by_c(c::build, list, lent)),
+        ("the quick engine by the crate", |list, lent| by_crate(plain::build, list, lent)),
+        ("the plain engine by C", |list, lent| by_c(c::build_plain, list, lent)),
+        ("the plain engine by the crate", |list, lent| by_crate(plain::build_plain, list, lent)),
+    ];
+
+    fn by_c(engine: OfC, list: &List, lent: &mut Lent) -> Told {
         let Lent { parcels, labels, jumps, loops } = lent;
-        told(c::build(&list.numbers, &list.names, parcels, labels, jumps, records(loops)))
+        told(engine(&list.numbers, &list.names, parcels, labels, jumps, records(loops)))
     }
 
-    /// The same through the plain interface.
-    pub fn plain_build(list: &List, lent: &mut Lent) -> Told {
+    fn by_crate(engine: OfCrate, list: &List, lent: &mut Lent) -> Told {
         let Lent { parcels, labels, jumps, loops } = lent;
         let mut lent = plain::Lent { parcels, labels, jumps, loops: records(loops) };
-        of_plain(plain::build(&list.numbers, &list.names, &mut lent))
+        of_plain(engine(&list.numbers, &list.names, &mut lent))
     }
 
     /// The same memory as records of the port's type.

@@ -110,6 +110,21 @@ extern "C" {
         loops_len: usize,
     ) -> Told;
 
+    fn lhodrupesh_build_plain(
+        rows: *const u32,
+        rows_len: usize,
+        names: *const u8,
+        names_len: usize,
+        parcels: *mut u16,
+        parcels_len: usize,
+        labels: *mut u32,
+        labels_len: usize,
+        jumps: *mut u32,
+        jumps_len: usize,
+        loops: *mut LoopRecord,
+        loops_len: usize,
+    ) -> Told;
+
     fn lhodrupesh_parcel_count(
         rows: *const u32,
         rows_len: usize,
@@ -155,6 +170,13 @@ pub fn instruction(row: &[u32]) -> One {
     unsafe { lhodrupesh_instruction(row.as_ptr(), row.len()) }
 }
 
+/// The call of an engine: of each slice its pointer and length.
+macro_rules! built {
+    ($engine:ident($($read:ident),*; $($lent:ident),*)) => {
+        unsafe { $engine($($read.as_ptr(), $read.len(),)* $($lent.as_mut_ptr(), $lent.len()),*) }
+    };
+}
+
 /// The build of a list into lent buffers.
 ///
 /// ```
@@ -172,22 +194,27 @@ pub fn build(
     jumps: &mut [u32],
     loops: &mut [LoopRecord],
 ) -> Told {
-    unsafe {
-        lhodrupesh_build(
-            rows.as_ptr(),
-            rows.len(),
-            names.as_ptr(),
-            names.len(),
-            parcels.as_mut_ptr(),
-            parcels.len(),
-            labels.as_mut_ptr(),
-            labels.len(),
-            jumps.as_mut_ptr(),
-            jumps.len(),
-            loops.as_mut_ptr(),
-            loops.len(),
-        )
-    }
+    built!(lhodrupesh_build(rows, names; parcels, labels, jumps, loops))
+}
+
+/// The build of a list by the plain engine: the same answer, and the same in the lent buffers.
+///
+/// ```
+/// let nop = [38, 0, 0, 0, 0, 0, 0, 0, 0, 0, 0, 0, 0, 0, 0, 0, 0];
+/// let mut parcels = [0; 1];
+/// let told = lhodrupesh::c::build_plain(&nop, &[], &mut parcels, &mut [], &mut [], &mut []);
+/// assert_eq!((told.number, told.count, parcels), (0, 1, [1]));
+/// ```
+#[inline]
+pub fn build_plain(
+    rows: &[u32],
+    names: &[u8],
+    parcels: &mut [u16],
+    labels: &mut [u32],
+    jumps: &mut [u32],
+    loops: &mut [LoopRecord],
+) -> Told {
+    built!(lhodrupesh_build_plain(rows, names; parcels, labels, jumps, loops))
 }
 
 /// The parcel count of a list.

@@ -22,7 +22,8 @@
 //!
 //! Beside them stand two more ways to the same library. [`plain`] builds rows of seventeen numbers
 //! into buffers that the caller lends, allocates nothing, and refuses with a [`plain::Refusal`];
-//! [`c`] is the C interface itself, each function behind a safe one.
+//! [`c`] is the C interface itself, each function behind a safe one. In both, `build_plain` is the
+//! build by the library's second engine; all else is built by the first.
 //!
 //! Parcels, counts, bytes and refusals come from the library, which is proved; this crate, which
 //! turns values into rows and refusals into errors, is compared with `qc_asm` and not proved. The

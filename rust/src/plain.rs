@@ -181,6 +181,35 @@ pub fn build(rows: &[u32], names: &[u8], lent: &mut Lent<'_>) -> Result<usize, R
     counted(c::build(rows, names, parcels, labels, jumps, loops))
 }
 
+/// Builds a list by the plain engine: two walks, of which the first places every item and finds
+/// every loop's end, and the second writes each parcel once. It is there to learn from and to hold
+/// [`build`] against. It is slower; what it answers and what it leaves are the same, for all input.
+///
+/// ```
+/// use lhodrupesh::plain::{self, Lent, LoopRecord};
+///
+/// // A loop over a WideNop, 16 times.
+/// let rows = [
+///     [50, 0, 16, 1, 0, 0, 0, 0, 0, 0, 0, 0, 0, 0, 0, 0, 0],
+///     [39, 0, 0, 0, 0, 0, 0, 0, 0, 0, 0, 0, 0, 0, 0, 0, 0],
+///     [51, 0, 0, 0, 0, 0, 0, 0, 0, 0, 0, 0, 0, 0, 0, 0, 0],
+/// ];
+/// let built = [plain::build, plain::build_plain].map(|build| {
+///     let mut parcels = [7; 8];
+///     let mut loops = [LoopRecord { place: 7, first: 7, count: 7, mode: 7 }; 2];
+///     let mut lent =
+///         Lent { parcels: &mut parcels, labels: &mut [], jumps: &mut [], loops: &mut loops };
+///     let answer = build(rows.as_flattened(), &[], &mut lent);
+///     (answer, parcels, loops)
+/// });
+/// assert_eq!(built[0], built[1]);
+/// assert_eq!((&built[1].0, built[1].1), (&Ok(6), [0x0c00, 0x1080, 0x0003, 0, 0, 0, 7, 7]));
+/// ```
+pub fn build_plain(rows: &[u32], names: &[u8], lent: &mut Lent<'_>) -> Result<usize, Refusal> {
+    let Lent { parcels, labels, jumps, loops } = lent;
+    counted(c::build_plain(rows, names, parcels, labels, jumps, loops))
+}
+
 /// How many parcels a list takes. Labels, jumps and loops aren't looked into.
 ///
 /// ```

@@ -1,6 +1,6 @@
 //! Document 01's kernels on the edge, through the types and through rows.
 
-use lhodrupesh::plain::{self, Refusal};
+use lhodrupesh::plain::{self, Lent, LoopRecord, Refusal};
 use lhodrupesh::{
     AluOp, Compute, Condition, DataAccess, Direction, FloatMulAlu, IndexRegister, LoopCount,
     LoopMode, MemoryAccess, ModifyRegister, Register, UniversalRegister, Update, VisaError,
@@ -165,6 +165,38 @@ fn loops_end_on_instructions_of_their_own() {
     assert!(looped(&[&after_a_nop(11)]).parcels().is_ok());
     let short = looped(&[&after_a_nop(10)]).parcels();
     assert_eq!(short, Err(VisaError::LoopTailNotFullWidth(3)));
+}
+
+/// What the plain engine builds of a program, in enough room.
+fn by_the_plain_engine(program: &VisaProgram) -> Result<Vec<u16>, Refusal> {
+    let (mut parcels, mut labels, mut jumps) = (vec![7; 256], [7; 12], [7; 8]);
+    let mut loops = [LoopRecord::default(); 4];
+    let mut lent =
+        Lent { parcels: &mut parcels, labels: &mut labels, jumps: &mut jumps, loops: &mut loops };
+    let count = plain::build_plain(program.rows(), program.names(), &mut lent)?;
+    parcels.truncate(count);
+    Ok(parcels)
+}
+
+#[test]
+fn the_plain_engine_builds_what_the_types_build() {
+    use VisaInstruction as V;
+    let mut program = looped(&[&[V::Nop, V::WideNop], &[V::WideNop; 3], &[load(64)]]);
+    assert_eq!(program.parcels(), Err(VisaError::LoopTailNotFullWidth(9)));
+    assert_eq!(by_the_plain_engine(&program), Err(Refusal::LoopTailNotFullWidth(9)));
+    program = looped(&[&[V::WideNop; 12], &[V::WideNop; 3], &[load(64)]]);
+    program.label("back");
+    program.push(V::LeafReturn);
+    program.jump(Condition::Ne, "on");
+    program.jump(Condition::Always, "back");
+    program.label("on");
+    let parcels = program.parcels().unwrap();
+    assert_eq!((parcels.len(), &parcels[..3]), (69, &[0x0c00, 0x1080, 0x0036][..]));
+    assert_eq!(by_the_plain_engine(&program), Ok(parcels));
+    program.jump(Condition::Sv, "off");
+    assert_eq!(program.parcels(), Err(VisaError::UndefinedLabel("off".to_string())));
+    let refusal = by_the_plain_engine(&program).unwrap_err();
+    assert_eq!((refusal.number(), refusal.name(program.names())), (12, &b"off"[..]));
 }
 
 #[test]

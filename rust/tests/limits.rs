@@ -77,6 +77,8 @@ fn rows(last: fn(&mut VisaProgram)) -> VisaProgram {
 
 const OLD: LoopRecord = LoopRecord { place: 7, first: 7, count: 7, mode: 7 };
 
+/// What a build answers, and what it leaves.
+#[derive(Debug, PartialEq)]
 struct Left {
     answer: Result<usize, Refusal>,
     parcels: [u16; 11],
@@ -85,7 +87,9 @@ struct Left {
     loops: [LoopRecord; 2],
 }
 
-fn build(program: &VisaProgram) -> Left {
+type Engine = fn(&[u32], &[u8], &mut Lent<'_>) -> Result<usize, Refusal>;
+
+fn left_by(engine: Engine, program: &VisaProgram) -> Left {
     let mut left =
         Left { answer: Ok(0), parcels: [7; 11], labels: [7; 5], jumps: [7; 3], loops: [OLD; 2] };
     let mut lent = Lent {
@@ -94,7 +98,14 @@ fn build(program: &VisaProgram) -> Left {
         jumps: &mut left.jumps,
         loops: &mut left.loops,
     };
-    left.answer = plain::build(program.rows(), program.names(), &mut lent);
+    left.answer = engine(program.rows(), program.names(), &mut lent);
+    left
+}
+
+/// By both engines, which leave the same.
+fn build(program: &VisaProgram) -> Left {
+    let left = left_by(plain::build, program);
+    assert_eq!(left_by(plain::build_plain, program), left);
     left
 }
 

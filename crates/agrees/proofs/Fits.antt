@@ -1,6 +1,5 @@
 -- What the passed checks of the rows before i leave to know of the items: their totals fit the buffers, and each loop end had an open loop.
 use mathlib.Core.Path.{_≡_, subst}
-use mathlib.Core.List.{List}
 use Prim.Native.Nat.{ℕ, zero, suc, _*_, _≤_, _<_}
 use native.Mathlib.Omega.{arith}
 use lib.ListN.{length}
@@ -9,14 +8,16 @@ use Rattle.coded.specs.declared.Coded.the-variants.{LoopEnd}
 use Rattle.coded.specs.declared.Coded.{Coded}
 use Rattle.coded.specs.declared.Coded.the-variants as coded
 use Rattle.places.specs.declared.Rooms.{Rooms}
-use Rattle.places.specs.Items.{isLabel, isJump, total, place, nest}
+use Rattle.places.specs.Items.{Kernel, isLabel, isJump, total, place, nest}
 use Rattle.places.specs.Left.{Lent}
 use Rattle.places.specs.Looking.{deepest}
 use Rattle.machine.specs.declared.State.{State}
-use Rattle.machine.specs.Machine.{check, topOf, Rooming, Within}
-use Rattle.coded.specs.Fine.{CodedFine}
+use Rattle.checks.specs.Rooming.{RoomingIn}
+use Rattle.machine.specs.Machine.{check, topOf, Within}
+use Rattle.tables.specs.Tables.{KernelFine}
+use Rattle.refusals.proofs.Order.{AllPass}
 use Rattle.machine.proofs.Checks.{end-good}
-use Rattle.agrees.proofs.Prefix.{mem, stateOf, state-is, good-at}
+use Rattle.agrees.proofs.Prefix.{mem, stateOf, state-is, checkAt, good-at}
 
 pub record Fits (it : ℕ → Coded) (lent : Lent) (i : ℕ) : Type 0 where
   pub parcels : place it i ≤ length (lent .parcels)
@@ -33,21 +34,18 @@ fits-less {it} {i} f =
     let d = deepest-up it i in
     record { parcels = omega arith; labels = omega arith; jumps = omega arith; loops = omega arith; ends = λ q h. f .ends q (omega arith) }
 
-module _ (names : List ℕ) (it : ℕ → Coded) (lent : Lent) (r : Rooms) (rooms : Rooming r (length (lent .parcels)) (length (lent .labels)) (length (lent .jumps)) (length (lent .loops))) (fine : (q : ℕ) → CodedFine (length names) (it q)) where
-  abbrev Passing : ℕ → Type 0
-  Passing i = (q : ℕ) → q < i → check names r (it q) (mem it lent q) ≡ Good
+module _ (k : Kernel) (lent : Lent) (r : Rooms) (rooms : RoomingIn r lent) (fine : KernelFine k) where
+  within-at : (i : ℕ) → AllPass (checkAt k lent r) i → Within (stateOf (k .it) i) r
+  within-at i all = subst (λ (s : State). Within s r) (state-is (k .it) lent i) (good-at k lent r rooms fine i all .within)
 
-  within-at : (i : ℕ) → Passing i → Within (stateOf it i) r
-  within-at i all = subst (λ (s : State). Within s r) (state-is it lent i) (good-at it lent names r rooms fine i all .within)
-
-  deepest-in : (i : ℕ) → Passing i → deepest it i ≤ r .loops
+  deepest-in : (i : ℕ) → AllPass (checkAt k lent r) i → deepest (k .it) i ≤ r .loops
   deepest-in zero all = omega arith
   deepest-in (suc i) all =
       let h = deepest-in i (λ q u. all q (omega arith)) in
       let d = within-at (suc i) all .depth-in in
       omega arith
 
-  pub fits-at : (i : ℕ) → ((q : ℕ) → q < i → check names r (it q) (mem it lent q) ≡ Good) → Fits it lent i
+  pub fits-at : (i : ℕ) → AllPass (checkAt k lent r) i → Fits (k .it) lent i
   fits-at i all =
       let w = within-at i all in
       let d = deepest-in i all in
@@ -57,7 +55,7 @@ module _ (names : List ℕ) (it : ℕ → Coded) (lent : Lent) (r : Rooms) (room
         jumps = omega arith;
         loops = omega arith;
         ends = λ q u e.
-            let m = mem it lent q in
-            let c = end-good (m .s) (topOf (m .s) (m .lent .loops)) (subst (λ (x : Coded). check names r x (mem it lent q) ≡ Good) e (all q u)) in
-            subst (λ (s : State). 0 < s .depth) (state-is it lent q) (c .inside);
+            let m = mem (k .it) lent q in
+            let c = end-good (m .s) (topOf (m .s) (m .lent .loops)) (subst (λ (x : Coded). check (k .names) r x (mem (k .it) lent q) ≡ Good) e (all q u)) in
+            subst (λ (s : State). 0 < s .depth) (state-is (k .it) lent q) (c .inside);
       }

@@ -17,18 +17,20 @@ use Rattle.coded.specs.declared.Coded.{Coded}
 use Rattle.coded.specs.declared.Coded.the-variants as coded
 use Rattle.places.specs.declared.Rooms.{Rooms}
 use Rattle.places.specs.declared.OpenLoop.{OpenLoop}
-use Rattle.places.specs.Items.{sizeOf, addressOf, roomsOf}
+use Rattle.places.specs.Items.{sizeOf, addressOf}
 use Rattle.places.specs.Left.{Lent, zeroLoop}
 use Rattle.encode.specs.Encoding.{settled}
 use Rattle.refusals.proofs.Order.{refused-good}
 use Rattle.machine.specs.declared.State.{State}
-use Rattle.machine.specs.Machine.{Mem, memOf, check, next, topOf, topForm, beginRecord, endNext, Starts, Rooming, GoodFor}
+use Rattle.checks.specs.Rooming.{RoomingIn}
+use Rattle.machine.specs.Machine.{Mem, memOf, check, next, topOf, topForm, beginRecord, endNext, Starts, GoodFor}
 use Rattle.places.specs.Left.{zeros}
 use Rattle.tables.specs.Tables.{Entries}
 use Rattle.coded.specs.Fine.{CodedFine}
 use Rattle.machine.specs.Fold.{zeroState}
-use Rattle.machine.proofs.Checks.{instruction-good, label-good, jump-good, begin-good, end-good}
-use Rattle.agrees.proofs.Stores.{getD-sets-below, getD-sets-in}
+use Rattle.checks.proofs.Passed.{instruction-good, label-good, jump-good, begin-good}
+use Rattle.machine.proofs.Checks.{end-good}
+use Rattle.tables.proofs.Stores.{getD-sets-below, getD-sets-in}
 
 -- ---- no row changes a buffer's length
 pub record SameLens (m m′ : Mem) : Type 0 where
@@ -84,7 +86,7 @@ starts-less s s′ ks d some a l h k u =
 -- ---- one row
 pub keep : (names : List ℕ) (r : Rooms) (row : ℕ) (x : Coded) (m : Mem) → GoodFor names r m → CodedFine (length names) x → check names r x m ≡ Good → GoodFor names r (next row x m)
 keep names r row (Instruction v) m g h e =
-    let c = instruction-good (m .s) r v e in
+    let c = instruction-good r (m .s .at) (m .s .depth) v e in
     let some = form-some (v .form) (c .encodes) in
     let t = eqb (sizeOf (v .form)) 3 in
     let short = pick-most t (m .s .short) (m .s .count + 1) (m .s .count + 1) (omega arith) (omega arith) in
@@ -96,7 +98,7 @@ keep names r row (Instruction v) m g h e =
       starts = on-starts (m .s) (next row (Instruction v) m .s) (m .lent .loops) refl (omega arith) (omega arith) (g .starts);
     }
 keep names r row (Label a b) m g h e =
-    let c = label-good names (m .s) r (m .lent .labels) a b e in
+    let c = label-good r (m .s .depth) names (m .lent .labels) (m .s .labels) a b e in
     record {
       rooming = omega (arith, lens row (Label a b) m);
       within = omega arith;
@@ -104,7 +106,7 @@ keep names r row (Label a b) m g h e =
       starts = g .starts;
     }
 keep names r row (Jump c a b) m g h e =
-    let q = jump-good (m .s) r e in
+    let q = jump-good r (m .s .at) (m .s .jumps) (m .s .depth) e in
     record {
       rooming = omega (arith, lens row (Jump c a b) m);
       within = omega arith;
@@ -112,7 +114,7 @@ keep names r row (Jump c a b) m g h e =
       starts = on-starts (m .s) (next row (Jump c a b) m .s) (m .lent .loops) refl (omega arith) (omega arith) (g .starts);
     }
 keep names r row (LoopBegin c k) m g h e =
-    let q = begin-good (m .s) r e in
+    let q = begin-good r (m .s .at) (m .s .depth) e in
     record {
       rooming = omega (arith, lens row (LoopBegin c k) m);
       within = omega arith;
@@ -130,8 +132,5 @@ keep names r row LoopEnd m g h e =
 keep names r row (coded.Refused why) m g h e = absurd (refused-good why e)
 
 -- ---- the start
-pub rooms-in : (p l j k : ℕ) → Rooming (roomsOf p l j k) p l j k
-rooms-in p l j k = omega arith
-
-pub good-zero : (names : List ℕ) (r : Rooms) (lent : Lent) → Rooming r (length (lent .parcels)) (length (lent .labels)) (length (lent .jumps)) (length (lent .loops)) → GoodFor names r (memOf zeroState lent)
+pub good-zero : (names : List ℕ) (r : Rooms) (lent : Lent) → RoomingIn r lent → GoodFor names r (memOf zeroState lent)
 good-zero names r lent h = record { rooming = h; within = omega arith; entries = λ i q. absurd (omega arith); starts = λ i q. absurd (omega arith) }

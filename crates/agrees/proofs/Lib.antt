@@ -1,16 +1,12 @@
-pub mod Which
-pub mod Stores
 pub mod Keeps
 pub mod Along
 pub mod Prefix
 pub mod Fits
 pub mod Tables
-pub mod Scans
 pub mod Waiting
 pub mod Loops
 pub mod Tops
 pub mod Tails
-pub mod Names
 pub mod Same
 pub mod Parcels
 pub mod Aims

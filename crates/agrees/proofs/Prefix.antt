@@ -1,22 +1,23 @@
 -- The state once i rows are taken in, said of the items alone: each field is a count over, or a look back at, the first i items.
 use mathlib.Core.Path.{_≡_, refl, ap, _∙_}
 use mathlib.Core.Bool.{Bool, true, false, not, cond}
-use mathlib.Core.List.{List}
-use Prim.Native.Nat.{ℕ, zero, suc, _+_, _-_, _<_}
+use Prim.Native.Nat.{ℕ, zero, suc, _+_, _-_}
 use native.Mathlib.Omega.{arith}
-use lib.ListN.{length}
 use lib.Dec.{eqb}
-use Rattle.refusals.specs.declared.Verdict.the-variants.{Good}
+use Rattle.refusals.specs.declared.Verdict.{Verdict}
+use Rattle.refusals.proofs.Order.{AllPass}
 use Rattle.coded.specs.declared.Coded.the-variants.{Instruction, Label, Jump, LoopBegin, LoopEnd}
 use Rattle.coded.specs.declared.Coded.{Coded}
 use Rattle.coded.specs.declared.Coded.the-variants as coded
 use Rattle.places.specs.declared.Rooms.{Rooms}
-use Rattle.places.specs.Items.{sizeOf, address, isEnd, isShort, Traits, about, isLabel, isJump, total, place, addressOf, entries, nest}
+use Rattle.places.specs.declared.Traits.{Traits}
+use Rattle.places.specs.Items.{Kernel, sizeOf, address, isEnd, isShort, about, isLabel, isJump, total, place, addressOf, entries, nest}
 use Rattle.places.specs.Left.{Lent}
 use Rattle.places.specs.Looking.{latest, lastAt}
 use Rattle.machine.specs.declared.State.{State}
-use Rattle.machine.specs.Machine.{Mem, memOf, st, check, next, Rooming, GoodFor}
-use Rattle.coded.specs.Fine.{CodedFine}
+use Rattle.checks.specs.Rooming.{RoomingIn}
+use Rattle.machine.specs.Machine.{Mem, memOf, st, check, next, GoodFor}
+use Rattle.tables.specs.Tables.{KernelFine}
 use Rattle.machine.specs.Fold.{memAt, zeroState}
 use Rattle.agrees.proofs.Keeps.{SameLens, lens, keep, good-zero}
 
@@ -77,8 +78,12 @@ module _ (it : ℕ → Coded) (lent : Lent) where
   state-is zero = refl
   state-is (suc i) = next-is i (it i) (mem i) ∙ ap (turned (about (it i))) (state-is i)
 
-  module _ (names : List ℕ) where
-    -- what holds while the rows before i pass
-    pub good-at : (r : Rooms) → Rooming r (length (lent .parcels)) (length (lent .labels)) (length (lent .jumps)) (length (lent .loops)) → ((q : ℕ) → CodedFine (length names) (it q)) → (i : ℕ) → ((q : ℕ) → q < i → check names r (it q) (mem q) ≡ Good) → GoodFor names r (mem i)
-    good-at r rooms fine zero all = good-zero names r lent rooms
-    good-at r rooms fine (suc i) all = keep names r i (it i) (mem i) (good-at r rooms fine i (λ q h. all q (omega arith))) (fine i) (all i (omega arith))
+module _ (k : Kernel) (lent : Lent) (r : Rooms) where
+  -- the check of row q, where the rows before it are taken in
+  abbrev pub checkAt : ℕ → Verdict
+  checkAt q = check (k .names) r (k .it q) (mem (k .it) lent q)
+
+  -- what holds while the rows before i pass
+  pub good-at : RoomingIn r lent → KernelFine k → (i : ℕ) → AllPass checkAt i → GoodFor (k .names) r (mem (k .it) lent i)
+  good-at rooms fine zero all = good-zero (k .names) r lent rooms
+  good-at rooms fine (suc i) all = keep (k .names) r i (k .it i) (mem (k .it) lent i) (good-at rooms fine i (λ q h. all q (omega arith))) (fine i) (all i (omega arith))

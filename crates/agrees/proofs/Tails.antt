@@ -10,7 +10,7 @@ use Rattle.refusals.specs.declared.Refusal.the-variants.{SharedLoopEnd, LoopTai
 use Rattle.coded.specs.declared.Coded.{Coded}
 use Rattle.places.specs.Items.{isEntry, isEnd, isShort, address, entries, nest}
 use Rattle.refusals.specs.Order.{when}
-use Rattle.places.specs.Looking.{Found, at, newest, opener, sharer, shortOne}
+use Rattle.places.specs.Looking.{Found, opener, sharer, shortOne}
 use Rattle.places.specs.Verdict.{whenFound}
 use Rattle.prefixes.proofs.Tests.{true-false, not-so, and-both, order}
 use Rattle.prefixes.proofs.Looking.{None, LatestRow, latest-row, latest-is, latest-none, newest-is, newest-none, not-after}

@@ -93,7 +93,7 @@ fn fixed(kind: u32) -> [u64; 8]
 }
 
 // Whether a kind is one of the twelve single computes.
-pub fn is_compute(kind: u32) -> bool
+fn is_compute(kind: u32) -> bool
     ensures { λ r. ⌜ r ≡ isCompute kind ⌝ }
 {
     kind <= 8 || 25 <= kind && kind <= 27

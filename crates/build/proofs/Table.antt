@@ -18,7 +18,7 @@ use Rattle.places.specs.declared.OpenLoop.{OpenLoop}
 use Rattle.places.specs.Left.{zeroLoop}
 use Rattle.places.proofs.OpenLoop as loop
 use Rattle.places.proofs.OpenLoop.Laws as loop-laws
-use Rattle.taking.proofs.Values.{loop-value, zero-is}
+use Rattle.tables.proofs.Records.{loop-value, zero-is}
 
 abbrev pub table : List OpenLoop
 table = replicate 64 zeroLoop

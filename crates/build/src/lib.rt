@@ -1,8 +1,10 @@
 // The public build: rows, names and lent buffers to an answer, and the name of a refusal.
 ghost use mathlib.Core.Path.{_≡_};
+ghost use mathlib.Core.List.{[]};
 ghost use Prim.Native.Nat.{_≤_};
 ghost use lib.ListN.{length};
 ghost use Rattle.refusals.specs.Numbers.{answered};
+ghost use Rattle.places.specs.Items.{kernelOf};
 ghost use Rattle.places.specs.Looking.{part};
 ghost use Rattle.places.specs.Left.{lentOf, Builds, BuildsAlone, HandsBack};
 ghost use Rattle.settling.specs.Settling.{Used};
@@ -25,7 +27,7 @@ fn refused(
     jumps: &mut [u32],
 ) -> Answer
     requires { ⌜ Used (state .at) (state .labels) (state .jumps) (length (now parcels)) (length (now labels)) (length (now jumps)) ⌝ }
-    ensures { λ a. ⌜ Wiped why state (now (parcels .entry)) (now (labels .entry)) (now (jumps .entry)) a (now (parcels .exit)) (now (labels .exit)) (now (jumps .exit)) ⌝ }
+    ensures { λ a. ⌜ Wiped why state (lentOf (now (parcels .entry)) (now (labels .entry)) (now (jumps .entry)) []) a (lentOf (now (parcels .exit)) (now (labels .exit)) (now (jumps .exit)) []) ⌝ }
 {
     settling::wipes::clear(state.at, state.labels, state.jumps, parcels, labels, jumps);
     Answer::Refused(why)
@@ -41,8 +43,8 @@ fn finish(
     jumps: &mut [u32],
     t: Taking,
 ) -> Answer
-    requires { ⌜ Finishing (now rows) (now names) t (now parcels) (now labels) (now jumps) ⌝ }
-    ensures { λ r. ⌜ Finished (now (rows .entry)) (now (names .entry)) t (now (parcels .entry)) (now (labels .entry)) (now (jumps .entry)) r (now (parcels .exit)) (now (labels .exit)) (now (jumps .exit)) ⌝ }
+    requires { ⌜ Finishing (kernelOf (now rows) (now names)) t (lentOf (now parcels) (now labels) (now jumps) []) ⌝ }
+    ensures { λ r. ⌜ Finished (kernelOf (now (rows .entry)) (now (names .entry))) t (lentOf (now (parcels .entry)) (now (labels .entry)) (now (jumps .entry)) []) r (lentOf (now (parcels .exit)) (now (labels .exit)) (now (jumps .exit)) []) ⌝ }
 {
     let state = t.state;
     let verdict = t.verdict;
@@ -100,7 +102,7 @@ pub fn build_alone(
     labels: &mut [u32],
     jumps: &mut [u32],
 ) -> Answer
-    ensures { λ r. ⌜ BuildsAlone (now (rows .entry)) (now (names .entry)) (now (parcels .entry)) (now (labels .entry)) (now (jumps .entry)) (answered r) (now (parcels .exit)) (now (labels .exit)) (now (jumps .exit)) ⌝ }
+    ensures { λ r. ⌜ BuildsAlone (now (rows .entry)) (now (names .entry)) (lentOf (now (parcels .entry)) (now (labels .entry)) (now (jumps .entry)) []) (answered r) (lentOf (now (parcels .exit)) (now (labels .exit)) (now (jumps .exit)) []) ⌝ }
 {
     let zero = ZERO_LOOP;
     let mut loops = [zero; 64];

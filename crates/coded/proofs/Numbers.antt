@@ -4,6 +4,7 @@ use mathlib.Core.Bool.{Bool, true, false, cond, not}
 use mathlib.Core.List.{List}
 use Prim.Native.Nat.{ℕ, _/_}
 use lib.Dec.{eqb}
+use Rattle.fields.specs.Pack.{Field}
 use Rattle.registers.specs.declared.Register.{Register}
 use Rattle.refusals.specs.declared.Refusal.the-variants.{MultifunctionOperand, DuplicateDestination}
 use Rattle.refusals.specs.declared.Verdict.{Verdict}
@@ -15,13 +16,10 @@ use Rattle.items.specs.declared.Compute.{Compute}
 use Rattle.items.specs.declared.DataAccess.{DataAccess}
 use Rattle.items.specs.declared.FloatMulAlu.{FloatMulAlu}
 use Rattle.items.specs.declared.MemoryAccess.{MemoryAccess}
-use Rattle.items.specs.declared.VisaInstruction.{VisaInstruction}
 use Rattle.items.specs.declared.Item.the-variants as item
 use Rattle.computes.specs.declared.Made.{Made}
 use Rattle.computes.specs.declared.Made.the-variants as made
-use Rattle.computes.specs.declared.SingleCompute.{SingleCompute}
-use Rattle.computes.specs.declared.SingleCompute.the-variants as single
-use Rattle.computes.specs.Compute.{partsOf, madeParts, madeSingle, outside, multiRefusals, madeBy, madeMulti}
+use Rattle.computes.specs.Compute.{madeSingle, outside, multiRefusals, madeBy, madeMulti}
 use Rattle.encode.specs.Encoding.{verdictOf}
 use Rattle.encode.proofs.Numbers.{instruction-tells}
 use Rattle.bounds.specs.Tables.{at}
@@ -51,13 +49,9 @@ by-tells : (v : Verdict) (compute : Compute) → Tells reading v → MadeTells (
 by-tells verdict.Good compute h = tt
 by-tells (verdict.Refused refusal) compute h = h
 
-parts-tell : (parts : SingleCompute) → MadeTells (madeParts parts)
-parts-tell (single.Compute p) = tt
-parts-tell single.NotACompute = refl
-
-single-tells : (v : VisaInstruction) → MadeTells (madeSingle v)
+single-tells : (fields : List Field) (destination : ℕ) → MadeTells (madeSingle fields destination)
 unfolding madeSingle
-single-tells v = parts-tell (partsOf v)
+single-tells fields destination = tt
 
 outside-tells : (group : ℕ) (r : Register) → Tells reading (outside group r)
 outside-tells group r = tells-when reading (not (eqb (r .0 / 4) group)) (MultifunctionOperand group (r .0)) refl
@@ -89,7 +83,7 @@ compute-tells : (row : List ℕ) → MadeTells (computeOf row)
 unfolding computeOf
 compute-tells row =
     let multi = multi-tells (multiOf row) in
-    either MadeTells (eqb (at row 1) 1) _ _ (either MadeTells (isCompute (at row 2)) _ _ (single-tells _) refl)
+    either MadeTells (eqb (at row 1) 1) _ _ (either MadeTells (isCompute (at row 2)) _ _ (single-tells _ _) refl)
     (either MadeTells (eqb (at row 1) 2) _ _ multi multi)
 
 abbrev BesideTells : Beside → Type 0

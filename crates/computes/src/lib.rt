@@ -1,33 +1,13 @@
-// The 23-bit compute field: the twelve single computes, and the multiplication beside a sum or a difference.
+// The 23-bit compute field: a single compute, and the multiplication beside a sum or a difference.
 ghost use mathlib.Core.Path.{_≡_};
 ghost use Prim.Native.Nat.{_<_, _^_};
 ghost use Rattle.fields.specs.Pack.{pack};
-ghost use Rattle.computes.specs.declared.SingleCompute.the-variants as S;
 ghost use Rattle.words.specs.Forms.{type2a};
-ghost use Rattle.computes.specs.Compute.{multi, binary, unary, compare, scalarParts, partsOf, fieldsOf, madeSingle, opcodeOf, madeMulti};
+ghost use Rattle.computes.specs.Compute.{single, multi, madeSingle, opcodeOf, madeMulti};
 use items::AluOp;
 use items::Compute;
 use items::FloatMulAlu;
-use items::Instruction;
-use items::VisaInstruction;
 use refusals::Refusal;
-use registers::Register;
-
-// The fields of a single compute, and the number of its destination: 16 where there is none.
-pub struct Parts {
-    pub unit: u8,
-    pub opcode: u8,
-    pub rn: u8,
-    pub rx: u8,
-    pub ry: u8,
-    pub destination: u8,
-}
-
-// Whether an instruction is one of the twelve single computes, and which.
-pub enum SingleCompute {
-    Compute(Parts),
-    NotACompute,
-}
 
 // A compute, or why there is none.
 pub enum Made {
@@ -35,133 +15,33 @@ pub enum Made {
     Refused(Refusal),
 }
 
-// A single compute of two inputs.
-fn binary_parts(unit: u8, opcode: u8, dst: Register, lhs: Register, rhs: Register) -> SingleCompute
-    ensures { λ r. ⌜ r ≡ binary unit opcode dst lhs rhs ⌝ }
-{
-    SingleCompute::Compute(Parts {
-        unit: unit,
-        opcode: opcode,
-        rn: dst.0,
-        rx: lhs.0,
-        ry: rhs.0,
-        destination: dst.0,
-    })
-}
-
-// A single compute of one input.
-fn unary_parts(unit: u8, opcode: u8, dst: Register, src: Register) -> SingleCompute
-    ensures { λ r. ⌜ r ≡ unary unit opcode dst src ⌝ }
-{
-    SingleCompute::Compute(Parts {
-        unit: unit,
-        opcode: opcode,
-        rn: dst.0,
-        rx: src.0,
-        ry: 0,
-        destination: dst.0,
-    })
-}
-
-// A single compute of two inputs and no destination.
-fn compare_parts(unit: u8, opcode: u8, lhs: Register, rhs: Register) -> SingleCompute
-    ensures { λ r. ⌜ r ≡ compare unit opcode lhs rhs ⌝ }
-{
-    SingleCompute::Compute(Parts {
-        unit: unit,
-        opcode: opcode,
-        rn: 0,
-        rx: lhs.0,
-        ry: rhs.0,
-        destination: 16,
-    })
-}
-
-// The parts of a scalar instruction that is a single compute.
-pub fn scalar_parts(i: Instruction) -> SingleCompute
-    ensures { λ r. ⌜ r ≡ scalarParts i ⌝ }
-{
-    match i {
-        Instruction::FloatAdd { dst, lhs, rhs } => binary_parts(0, 0x81, dst, lhs, rhs),
-        Instruction::FloatSub { dst, lhs, rhs } => binary_parts(0, 0x82, dst, lhs, rhs),
-        Instruction::FloatMul { dst, lhs, rhs } => binary_parts(1, 0x30, dst, lhs, rhs),
-        Instruction::FloatMin { dst, lhs, rhs } => binary_parts(0, 0xe1, dst, lhs, rhs),
-        Instruction::FloatMax { dst, lhs, rhs } => binary_parts(0, 0xe2, dst, lhs, rhs),
-        Instruction::FloatNeg { dst, src } => unary_parts(0, 0xa2, dst, src),
-        Instruction::FloatAbs { dst, src } => unary_parts(0, 0xb0, dst, src),
-        Instruction::IntegerSub { dst, lhs, rhs } => binary_parts(0, 0x02, dst, lhs, rhs),
-        Instruction::FloatPass { dst, src } => unary_parts(0, 0xa1, dst, src),
-        Instruction::LoadImmediate { .. } => SingleCompute::NotACompute,
-        Instruction::Move { .. } => SingleCompute::NotACompute,
-        Instruction::LoadDm { .. } => SingleCompute::NotACompute,
-        Instruction::StoreDm { .. } => SingleCompute::NotACompute,
-    }
-}
-
-// The parts of an instruction that is a single compute.
-pub fn single_parts(v: VisaInstruction) -> SingleCompute
-    ensures { λ r. ⌜ r ≡ partsOf v ⌝ }
-{
-    match v {
-        VisaInstruction::Scalar(i) => scalar_parts(i),
-        VisaInstruction::Transfer { .. } => SingleCompute::NotACompute,
-        VisaInstruction::LoadImmediate { .. } => SingleCompute::NotACompute,
-        VisaInstruction::ModifyIndex { .. } => SingleCompute::NotACompute,
-        VisaInstruction::LoadDmPostModify { .. } => SingleCompute::NotACompute,
-        VisaInstruction::StoreDmPostModify { .. } => SingleCompute::NotACompute,
-        VisaInstruction::LoadDmPreModify { .. } => SingleCompute::NotACompute,
-        VisaInstruction::StoreDmPreModify { .. } => SingleCompute::NotACompute,
-        VisaInstruction::LoadDmOffset { .. } => SingleCompute::NotACompute,
-        VisaInstruction::StoreDmOffset { .. } => SingleCompute::NotACompute,
-        VisaInstruction::IntegerSubOne { dst, src } => unary_parts(0, 0x2a, dst, src),
-        VisaInstruction::IntegerPass { dst, src } => unary_parts(0, 0x21, dst, src),
-        VisaInstruction::IntegerCompareUnsigned { lhs, rhs } => compare_parts(0, 0x0b, lhs, rhs),
-        VisaInstruction::JumpRelative { .. } => SingleCompute::NotACompute,
-        VisaInstruction::CJump { .. } => SingleCompute::NotACompute,
-        VisaInstruction::PushImmediate { .. } => SingleCompute::NotACompute,
-        VisaInstruction::LeafReturn => SingleCompute::NotACompute,
-        VisaInstruction::Compute(_) => SingleCompute::NotACompute,
-        VisaInstruction::DualMove { .. } => SingleCompute::NotACompute,
-        VisaInstruction::MemoryMove { .. } => SingleCompute::NotACompute,
-        VisaInstruction::StoreImmediate { .. } => SingleCompute::NotACompute,
-        VisaInstruction::BitSetMode1 { .. } => SingleCompute::NotACompute,
-        VisaInstruction::BitClearMode1 { .. } => SingleCompute::NotACompute,
-        VisaInstruction::Nop => SingleCompute::NotACompute,
-        VisaInstruction::WideNop => SingleCompute::NotACompute,
-    }
-}
-
 // The 23-bit field of a single compute.
-fn single_field(p: Parts) -> u64
-    ensures { λ r. ⌜ (r ≡ pack (fieldsOf (S.Compute p))) × (r < 2 ^ 32) ⌝ }
+fn single_field(unit: u8, opcode: u8, rn: u8, rx: u8, ry: u8) -> u64
+    ensures { λ r. ⌜ (r ≡ pack (single unit opcode rn rx ry)) × (r < 2 ^ 32) ⌝ }
 {
-    ((p.unit as u64) << 20)
-        + ((p.opcode as u64) << 12)
-        + ((p.rn as u64) << 8)
-        + ((p.rx as u64) << 4)
-        + (p.ry as u64)
+    ((unit as u64) << 20)
+        + ((opcode as u64) << 12)
+        + ((rn as u64) << 8)
+        + ((rx as u64) << 4)
+        + (ry as u64)
 }
 
 // Type 2a: the word of a single compute.
-pub fn compute_word(p: Parts) -> u64
-    ensures { λ r. ⌜ r ≡ pack (type2a (fieldsOf (S.Compute p))) ⌝ }
+pub fn compute_word(unit: u8, opcode: u8, rn: u8, rx: u8, ry: u8) -> u64
+    ensures { λ r. ⌜ r ≡ pack (type2a (single unit opcode rn rx ry)) ⌝ }
 {
-    (0x13e << 32) + single_field(p)
+    (0x13e << 32) + single_field(unit, opcode, rn, rx, ry)
 }
 
-// `Compute::single`: the compute of a single-function instruction.
-pub fn single(v: VisaInstruction) -> Made
-    ensures { λ r. ⌜ r ≡ madeSingle v ⌝ }
+// `Compute::single`: the compute of a single's fields, with its destination: 16 where there is none.
+pub fn single(unit: u8, opcode: u8, rn: u8, rx: u8, ry: u8, destination: u8) -> Made
+    ensures { λ r. ⌜ r ≡ madeSingle (single unit opcode rn rx ry) destination ⌝ }
 {
-    let s = single_parts(v);
-    match s {
-        SingleCompute::Compute(p) => Made::Made(Compute {
-            field: single_field(p) as u32,
-            first: p.destination,
-            second: 16,
-        }),
-        SingleCompute::NotACompute => Made::Refused(Refusal::NotACompute),
-    }
+    Made::Made(Compute {
+        field: single_field(unit, opcode, rn, rx, ry) as u32,
+        first: destination,
+        second: 16,
+    })
 }
 
 // The opcode of the ALU half.

@@ -16,31 +16,32 @@ use Rattle.rows.specs.Rows.{wellFormed}
 use Rattle.coded.specs.declared.Coded.{Coded}
 use Rattle.coded.specs.declared.Coded.the-variants as coded
 use Rattle.places.specs.declared.Rooms.{Rooms}
-use Rattle.places.specs.Items.{rowAt, rowsIn, place}
-use Rattle.places.specs.Verdict.{kernel, faults, verdictAt, verdict}
-use Rattle.places.specs.Left.{Lent, kernelOf, roomsIn, buildOf, Builds}
+use Rattle.places.specs.Items.{Kernel, kernelOf, rowAt, rowsIn, place}
+use Rattle.places.specs.Verdict.{faults, verdictAt, verdict}
+use Rattle.places.specs.Left.{Lent, roomsIn, buildOf, Builds}
 use Rattle.refusals.proofs.Order.{orElse-good, first-good, first-all, all-first}
 use Rattle.counts.specs.declared.Counting.the-variants.{Parcels}
 use Rattle.counts.specs.Counts.{rowVerdict, countOf, Counts}
 use Rattle.counts.proofs.Tally.{answer-good}
 
-taken-encodes : (names : List ℕ) (it : ℕ → Coded) (r : Rooms) (i : ℕ) (x : Coded) → first (faults names it r i x) ≡ Good → rowVerdict Parcels x ≡ Good
-taken-encodes names it r i (coded.Instruction y) e = first-good (faults names it r i (coded.Instruction y)) e .1 .0
-taken-encodes names it r i (coded.Label a b) e = refl
-taken-encodes names it r i (coded.Jump c a b) e = refl
-taken-encodes names it r i (coded.LoopBegin c m) e = refl
-taken-encodes names it r i coded.LoopEnd e = refl
-taken-encodes names it r i (coded.Refused why) e = first-good (faults names it r i (coded.Refused why)) e .0
+module _ (k : Kernel) (r : Rooms) where
+  taken-encodes : (i : ℕ) (x : Coded) → first (faults k r i x) ≡ Good → rowVerdict Parcels x ≡ Good
+  taken-encodes i (coded.Instruction y) e = first-good (faults k r i (coded.Instruction y)) e .1 .0
+  taken-encodes i (coded.Label a b) e = refl
+  taken-encodes i (coded.Jump c a b) e = refl
+  taken-encodes i (coded.LoopBegin c m) e = refl
+  taken-encodes i coded.LoopEnd e = refl
+  taken-encodes i (coded.Refused why) e = first-good (faults k r i (coded.Refused why)) e .0
 
--- a good verdict of the build's leaves every row good
-rows-good : (names : List ℕ) (it : ℕ → Coded) (n : ℕ) (rooms : Rooms) → verdict (kernel names it n) rooms ≡ Good → firstOf (λ i. rowVerdict Parcels (it i)) n ≡ Good
-rows-good names it n rooms e =
-    let all = first-all (verdictAt (kernel names it n) rooms) n (orElse-good (firstOf (verdictAt (kernel names it n) rooms) n) _ e .0) in
-    all-first (λ i. rowVerdict Parcels (it i)) n (λ i h. taken-encodes names it rooms i (it i) (all i h))
+  -- a good verdict of the build's leaves every row good
+  rows-good : verdict k r ≡ Good → firstOf (λ i. rowVerdict Parcels (k .it i)) (k .n) ≡ Good
+  rows-good e =
+      let all = first-all (verdictAt k r) (k .n) (orElse-good (firstOf (verdictAt k r) (k .n)) _ e .0) in
+      all-first (λ i. rowVerdict Parcels (k .it i)) (k .n) (λ i h. taken-encodes i (k .it i) (all i h))
 
 module _ (rows names : List ℕ) (lent : Lent) where
   pub verdict-agrees : wellFormed (length rows) ≡ true → verdict (kernelOf rows names) (roomsIn lent) ≡ Good → countOf Parcels rows names ≡ answer.Accepted (place (rowAt rows names) (rowsIn rows))
-  verdict-agrees w e = rw (w, rows-good names (rowAt rows names) (rowsIn rows) (roomsIn lent) e)
+  verdict-agrees w e = rw (w, rows-good (kernelOf rows names) (roomsIn lent) e)
 
   by-test : (w : Bool) → wellFormed (length rows) ≡ w → {n : ℕ} → buildOf rows names lent .answer ≡ answer.Accepted n → countOf Parcels rows names ≡ answer.Accepted n
   by-test true w {n} e =

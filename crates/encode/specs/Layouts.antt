@@ -22,7 +22,7 @@ use Rattle.items.specs.declared.LoopMode.{LoopMode}
 use Rattle.items.specs.declared.VisaInstruction.{VisaInstruction}
 use Rattle.items.specs.declared.Instruction.the-variants as Scalar
 use Rattle.items.specs.declared.VisaInstruction.the-variants as Visa
-use Rattle.computes.specs.Compute.{scalarParts, partsOf, fieldsOf}
+use Rattle.computes.specs.Compute.{single}
 use Rattle.words.specs.Forms.{type2a, whole, bitOf, conditionCode, isStore, isPost, isF1, long17a, move5a, modify19a, offset15a, jump8a, call25a, store16a, mode18a, dual1a, memory3a, loop12a, registerLoop12a, nop21a, transfer5b, modify3b, offset15b, modify3c, nop21c, leafReturn}
 use Rattle.encode.specs.Registers.{isPm}
 use Rattle.encode.specs.Refusals.{offsetRefusals, modifyRefusals, jumpRefusals, callRefusals, dualRefusals, storeRefusals, memoryRefusals, loopRefusals}
@@ -35,17 +35,17 @@ pub record Layout : Type 0 where
 abbrev pub laid : List Verdict → ℕ → List Field → Layout
 laid refusals parcels fields = record { refusals = refusals; parcels = parcels; fields = fields }
 
--- the computes are 2a; "Scalar Move (70), LoadDm (10), StoreDm (11), 17a (0f)"
+-- "Opcodes (hex): FloatAdd 81, .."; "Unary forms have ry 0"; "Scalar Move (70), LoadDm (10), StoreDm (11), 17a (0f)"
 abbrev pub scalarFields : Instruction → List Field
-scalarFields (Scalar.FloatAdd dst lhs rhs) = type2a (fieldsOf (scalarParts (Scalar.FloatAdd dst lhs rhs)))
-scalarFields (Scalar.FloatSub dst lhs rhs) = type2a (fieldsOf (scalarParts (Scalar.FloatSub dst lhs rhs)))
-scalarFields (Scalar.FloatMul dst lhs rhs) = type2a (fieldsOf (scalarParts (Scalar.FloatMul dst lhs rhs)))
-scalarFields (Scalar.FloatMin dst lhs rhs) = type2a (fieldsOf (scalarParts (Scalar.FloatMin dst lhs rhs)))
-scalarFields (Scalar.FloatMax dst lhs rhs) = type2a (fieldsOf (scalarParts (Scalar.FloatMax dst lhs rhs)))
-scalarFields (Scalar.FloatNeg dst src) = type2a (fieldsOf (scalarParts (Scalar.FloatNeg dst src)))
-scalarFields (Scalar.FloatAbs dst src) = type2a (fieldsOf (scalarParts (Scalar.FloatAbs dst src)))
-scalarFields (Scalar.IntegerSub dst lhs rhs) = type2a (fieldsOf (scalarParts (Scalar.IntegerSub dst lhs rhs)))
-scalarFields (Scalar.FloatPass dst src) = type2a (fieldsOf (scalarParts (Scalar.FloatPass dst src)))
+scalarFields (Scalar.FloatAdd dst lhs rhs) = type2a (single 0 0x81 (dst .0) (lhs .0) (rhs .0))
+scalarFields (Scalar.FloatSub dst lhs rhs) = type2a (single 0 0x82 (dst .0) (lhs .0) (rhs .0))
+scalarFields (Scalar.FloatMul dst lhs rhs) = type2a (single 1 0x30 (dst .0) (lhs .0) (rhs .0))
+scalarFields (Scalar.FloatMin dst lhs rhs) = type2a (single 0 0xe1 (dst .0) (lhs .0) (rhs .0))
+scalarFields (Scalar.FloatMax dst lhs rhs) = type2a (single 0 0xe2 (dst .0) (lhs .0) (rhs .0))
+scalarFields (Scalar.FloatNeg dst src) = type2a (single 0 0xa2 (dst .0) (src .0) 0)
+scalarFields (Scalar.FloatAbs dst src) = type2a (single 0 0xb0 (dst .0) (src .0) 0)
+scalarFields (Scalar.IntegerSub dst lhs rhs) = type2a (single 0 0x02 (dst .0) (lhs .0) (rhs .0))
+scalarFields (Scalar.FloatPass dst src) = type2a (single 0 0xa1 (dst .0) (src .0) 0)
 scalarFields (Scalar.LoadImmediate dst value) = long17a 0x0f (dst .0) value
 scalarFields (Scalar.Move dst src) = move5a (dst .0) (src .0)
 scalarFields (Scalar.LoadDm dst address) = long17a 0x10 (dst .0) address
@@ -101,9 +101,9 @@ layoutOf (Visa.LoadDmPreModify dst index modifier) = modifyLayout dst index modi
 layoutOf (Visa.StoreDmPreModify src index modifier) = modifyLayout src index modifier true false
 layoutOf (Visa.LoadDmOffset dst index offset) = offsetLayout dst index offset false
 layoutOf (Visa.StoreDmOffset src index offset) = offsetLayout src index offset true
-layoutOf (Visa.IntegerSubOne dst src) = laid [] 3 (type2a (fieldsOf (partsOf (Visa.IntegerSubOne dst src))))
-layoutOf (Visa.IntegerPass dst src) = laid [] 3 (type2a (fieldsOf (partsOf (Visa.IntegerPass dst src))))
-layoutOf (Visa.IntegerCompareUnsigned lhs rhs) = laid [] 3 (type2a (fieldsOf (partsOf (Visa.IntegerCompareUnsigned lhs rhs))))
+layoutOf (Visa.IntegerSubOne dst src) = laid [] 3 (type2a (single 0 0x2a (dst .0) (src .0) 0))
+layoutOf (Visa.IntegerPass dst src) = laid [] 3 (type2a (single 0 0x21 (dst .0) (src .0) 0))
+layoutOf (Visa.IntegerCompareUnsigned lhs rhs) = laid [] 3 (type2a (single 0 0x0b 0 (lhs .0) (rhs .0)))
 layoutOf (Visa.JumpRelative condition offset delayed) = jumpLayout condition offset delayed
 layoutOf (Visa.CJump target) = laid (callRefusals target) 3 (call25a target)
 layoutOf (Visa.PushImmediate value) = laid [] 3 (store16a 7 7 0 value)

@@ -8,6 +8,7 @@ ghost use Prim.Native.Nat.{_≤_};
 ghost use lib.ListN.{length};
 ghost use Rattle.items.specs.declared.VisaInstruction.the-variants.{CJump};
 ghost use Rattle.encode.specs.Encoding.{formOf, jumpForm, loopForm, formParcels, formVerdict, settled, formEncoded};
+use computes::compute_word;
 use fields::full_word_parcels;
 use items::Condition;
 use items::LoopCount;
@@ -137,9 +138,27 @@ pub fn visa_form(v: VisaInstruction) -> Form
             offset,
             true,
         ),
-        VisaInstruction::IntegerSubOne { .. } => Form::Word(scalars::visa_compute(v)),
-        VisaInstruction::IntegerPass { .. } => Form::Word(scalars::visa_compute(v)),
-        VisaInstruction::IntegerCompareUnsigned { .. } => Form::Word(scalars::visa_compute(v)),
+        VisaInstruction::IntegerSubOne { dst, src } => Form::Word(compute_word(
+            0,
+            0x2a,
+            dst.0,
+            src.0,
+            0,
+        )),
+        VisaInstruction::IntegerPass { dst, src } => Form::Word(compute_word(
+            0,
+            0x21,
+            dst.0,
+            src.0,
+            0,
+        )),
+        VisaInstruction::IntegerCompareUnsigned { lhs, rhs } => Form::Word(compute_word(
+            0,
+            0x0b,
+            0,
+            lhs.0,
+            rhs.0,
+        )),
         VisaInstruction::JumpRelative {
             condition,
             offset,

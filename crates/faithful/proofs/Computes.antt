@@ -13,21 +13,21 @@ use Rattle.refusals.specs.declared.Refusal.the-variants.{NotACompute}
 use Rattle.items.specs.declared.Compute.{Compute}
 use Rattle.items.specs.declared.OptionalCompute.{OptionalCompute}
 use Rattle.items.specs.declared.OptionalCompute.the-variants.{Nothing, Held}
-use Rattle.computes.specs.Compute.{partsOf, fieldsOf, madeSingle, multiFields, madeMulti}
+use Rattle.computes.specs.Compute.{madeSingle, multiFields, madeMulti}
 use Rattle.computes.specs.declared.Made.{Made}
 use Rattle.computes.specs.declared.Made.the-variants as made
-use Rattle.computes.proofs.Fitting.{single-faithful, multi-faithful}
-use Rattle.encode.specs.Layouts.{fieldOf}
+use Rattle.computes.proofs.Fitting.{multi-faithful}
+use Rattle.encode.specs.Layouts.{fieldOf, layoutOf}
 use Rattle.bounds.specs.Tables.{lookup}
 use Rattle.bounds.specs.Bounds.{never, form, word, register, op, filled, fields, isCompute, isInstruction, single, compute}
+use Rattle.bounds.proofs.Twelve.{twelve}
 use Rattle.rows.specs.declared.Beside.the-variants as beside
-use Rattle.rows.specs.Fields.{instructionOf}
-use Rattle.rows.specs.Rows.{computeOf, besideOf}
+use Rattle.rows.specs.Fields.{reg, scalars, others, instructionOf}
+use Rattle.rows.specs.Rows.{singleFields, computeOf, besideOf}
 use Rattle.rows.specs.Rows as rows
 use Rattle.rows.specs.Kept.{Below}
 use Rattle.faithful.specs.Words.{computeFields}
-use Rattle.faithful.proofs.Lines.{_&_, Inside}
-use Rattle.faithful.proofs.Ranges.{ranged}
+use Rattle.faithful.proofs.Lines.{_&_, Each, Inside, by-compute}
 
 -- a number is the word of these 23 bits
 abbrev pub Opens : ℕ → List Field → Type 0
@@ -45,27 +45,50 @@ single-inside (x ∷ []) a b c d e vs t = t .1 .1 .0 & t .1 .1 .1 .0 & t .1 .1 .
 single-inside (x ∷ y ∷ []) a b c d e vs t = t .1 .1 .0 & t .1 .1 .1 .0 & t .1 .1 .1 .1 .0 & tt
 single-inside (x ∷ y ∷ z ∷ l) a b c d e vs t = t .1 .1 .0 & t .1 .1 .1 .0 & t .1 .1 .1 .1 .0 & tt
 
+-- the 23 bits of a single, for fields within its kind's bounds
+abbrev SingleKind : ℕ → Type 0
+SingleKind k = (a b c : ℕ) → Inside k a b c → Faithful 23 (singleFields k a b c)
+
+each-single : Each SingleKind twelve
+unfolding fields layoutOf instructionOf scalars others
+each-single =
+    (λ a b c h. faithful 23 _ (omega arith) (omega arith)) &  -- FloatAdd
+    (λ a b c h. faithful 23 _ (omega arith) (omega arith)) &
+    (λ a b c h. faithful 23 _ (omega arith) (omega arith)) &
+    (λ a b c h. faithful 23 _ (omega arith) (omega arith)) &
+    (λ a b c h. faithful 23 _ (omega arith) (omega arith)) &
+    (λ a b c h. faithful 23 _ (omega arith) (omega arith)) &
+    (λ a b c h. faithful 23 _ (omega arith) (omega arith)) &
+    (λ a b c h. faithful 23 _ (omega arith) (omega arith)) &
+    (λ a b c h. faithful 23 _ (omega arith) (omega arith)) &  -- FloatPass
+    (λ a b c h. faithful 23 _ (omega arith) (omega arith)) &  -- IntegerSubOne
+    (λ a b c h. faithful 23 _ (omega arith) (omega arith)) &
+    (λ a b c h. faithful 23 _ (omega arith) (omega arith)) &
+    tt
+
 module _ (n k a b c d e f g h : ℕ) (qs : List ℕ) (m : Compute) where
   abbrev row : List ℕ
   row = row8 k a b c d e f g h qs
 
   of-single :
-      (t : Bool) →
+      (t : Bool) → isCompute b ≡ t →
       Below (filled 8 (form ∷ cond t (word ∷ filled 3 (lookup b fields (never ∷ []))) (cond (isInstruction b) (word ∷ replicate 6 word) (never ∷ [])))) (a ∷ b ∷ c ∷ d ∷ e ∷ f ∷ g ∷ h ∷ qs) →
-      cond t (madeSingle (instructionOf b c d e)) (made.Refused NotACompute) ≡ made.Made m → Opens (m .field) (fieldsOf (partsOf (instructionOf b c d e)))
-  of-single true w q =
+      cond t (madeSingle (singleFields b c d e) (cond (eqb b 27) 16 (reg c .0))) (made.Refused NotACompute) ≡ made.Made m →
+      Opens (m .field) (singleFields b c d e)
+  unfolding madeSingle
+  of-single true p w q =
       let i : Inside b c d e = single-inside (lookup b fields (never ∷ [])) a b c d e (f ∷ g ∷ h ∷ qs) w in
-      single-faithful (instructionOf b c d e) m (ranged b c d e i) q
-  of-single false w q = let z : _≡_ {A = ℕ} 0 1 = cc in absurd (omega arith)
+      ((let x : m .field ≡ pack (singleFields b c d e) = cc in x), by-compute SingleKind each-single b p c d e i)
+  of-single false p w q = let z : _≡_ {A = ℕ} 0 1 = cc in absurd (omega arith)
 
   of-form :
       (t0 t1 t2 : Bool) → t0 ≡ false →
       Below (filled 8 (cond t0 (n ∷ []) (cond t1 (form ∷ single b) (cond t2 (form ∷ register ∷ register ∷ register ∷ op ∷ register ∷ register ∷ register ∷ []) (never ∷ [])))))
       (a ∷ b ∷ c ∷ d ∷ e ∷ f ∷ g ∷ h ∷ qs) →
-      cond t1 (rows.singleOf row) (cond t2 (madeMulti (rows.multiOf row)) (madeMulti (rows.multiOf row))) ≡ made.Made m →
-      Opens (m .field) (cond t0 (fixed 22 0 0 ∷ []) (cond t1 (fieldsOf (partsOf (instructionOf b c d e))) (multiFields (rows.multiOf row))))
+      cond t1 (rows.singleOf b c d e) (cond t2 (madeMulti (rows.multiOf row)) (madeMulti (rows.multiOf row))) ≡ made.Made m →
+      Opens (m .field) (cond t0 (fixed 22 0 0 ∷ []) (cond t1 (singleFields b c d e) (multiFields (rows.multiOf row))))
   of-form true t1 t2 z w q = let z : _≡_ {A = ℕ} 0 1 = cc in absurd (omega arith)
-  of-form false true t2 z w q = of-single (isCompute b) w q
+  of-form false true t2 z w q = of-single (isCompute b) refl w q
   of-form false false true z w q = multi-faithful (rows.multiOf row) m (omega arith) q
   of-form false false false z w q = let z : a < 0 = w .0 in absurd (omega arith)
 

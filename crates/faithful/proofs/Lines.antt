@@ -5,9 +5,11 @@ use mathlib.Core.Path.{_≡_, refl}
 use mathlib.Core.Bool.{Bool, true, false}
 use mathlib.Core.List.{List, [], _∷_}
 use lib.Dec.{eqb}
-use borrow.Author.Tests.{eqb-true}
+use borrow.Author.Tests.{eqb-true, eqb-false}
 use Rattle.bounds.specs.Tables.{lookup}
-use Rattle.bounds.specs.Bounds.{never, filled, fields}
+use Rattle.bounds.specs.Bounds.{never, filled, fields, isCompute}
+use Rattle.bounds.proofs.Lookups.{NotIn}
+use Rattle.bounds.proofs.Twelve.{twelve, no-compute}
 use Rattle.rows.specs.Kept.{Below}
 
 abbrev pub Each : {A : Type 0} → (ℕ → Type 0) → List (ℕ × A) → Type 0
@@ -46,3 +48,20 @@ of-kind P k a b c (none q) h = absurd (no-kind a b c (lookup k fields (never ∷
 
 pub by-kind : (P : ℕ → Type 0) → Each P fields → (k a b c : ℕ) → Inside k a b c → P k
 by-kind P all k a b c h = of-kind P k a b c (has P fields all k (never ∷ [])) h
+
+-- what holds of each of a table's kinds holds of a kind that is not outside the table; so of every single compute, by the twelve
+found : {A : Type 0} (P : ℕ → Type 0) (lines : List (ℕ × A)) → Each P lines → (k : ℕ) (told : Type 0) → told → (NotIn k lines told → ⊥) → P k
+found P [] all k told t h = absurd (h t)
+found P (l ∷ lines) all k told t h =
+    go (eqb k (l .0)) refl (λ n. found P lines (all .1) k (told × (k ≡ l .0 → ⊥)) (t, n) h)
+  where
+    go : (b : Bool) → eqb k (l .0) ≡ b → ((k ≡ l .0 → ⊥) → P k) → P k
+    go true e rest = rw (eqb-true k (l .0) e) (all .0)
+    go false e rest = rest (eqb-false k (l .0) e)
+
+pub by-compute : (P : ℕ → Type 0) → Each P twelve → (k : ℕ) → isCompute k ≡ true → P k
+by-compute P all k e =
+    found P twelve all k (Unit {0}) tt
+    (λ r.
+    let f = no-compute k r in
+    let z : _≡_ {A = ℕ} 0 1 = cc in omega arith)

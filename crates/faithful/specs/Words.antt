@@ -15,21 +15,20 @@ use Rattle.items.specs.declared.LoopCount.{LoopCount}
 use Rattle.items.specs.declared.LoopMode.{LoopMode}
 use Rattle.items.specs.declared.VisaInstruction.{VisaInstruction}
 use Rattle.items.specs.declared.Item.the-variants as item
-use Rattle.computes.specs.Compute.{partsOf, fieldsOf, multiFields}
+use Rattle.computes.specs.Compute.{multiFields}
 use Rattle.words.specs.Forms.{type2a}
 use Rattle.encode.specs.Layouts.{layoutOf, dualFields, memoryFields, jumpLayout, loopLayout}
 use Rattle.encode.specs.Encoding.{parcelsOf, verdictOf, jumpForm, loopForm, formParcels, formVerdict}
 use Rattle.bounds.specs.Tables.{lookup, at}
 use Rattle.rows.specs.declared.Read.the-variants as read
-use Rattle.rows.specs.Fields.{instructionOf}
-use Rattle.rows.specs.Rows.{multiOf, dmOf, pmOf, accessOf, readOf}
+use Rattle.rows.specs.Rows.{multiOf, singleFields, dmOf, pmOf, accessOf, readOf}
 
 -- the 23 bits of a row's compute: "0 none", "1 single", "2 multifunction"
 unfoldable pub computeFields : List ℕ → List Field
 computeFields row =
     lookup (at row 1)
     ((0, fixed 22 0 0 ∷ []) ∷
-    (1, fieldsOf (partsOf (instructionOf (at row 2) (at row 3) (at row 4) (at row 5)))) ∷ [])
+    (1, singleFields (at row 2) (at row 3) (at row 4) (at row 5)) ∷ [])
     (multiFields (multiOf row))
 
 -- the fields of a row's instruction: its layout's, where it holds a compute with those of the compute

@@ -3,7 +3,7 @@ use crate::print::named;
 use crate::print::one;
 use crate::print::three;
 use crate::print::two;
-use computes::Parts;
+use computes::compute_word;
 use items::Condition;
 use words::call_word;
 use words::count_loop_word;
@@ -23,18 +23,6 @@ use words::register_loop_word;
 use words::store_word;
 use words::transfer_word;
 
-// The word of a single compute with these fields.
-fn single_word(unit: u8, opcode: u8, rn: u8, rx: u8, ry: u8) -> u64 {
-    computes::compute_word(Parts {
-        unit,
-        opcode,
-        rn,
-        rx,
-        ry,
-        destination: rn,
-    })
-}
-
 // The word of a multifunction with these fields.
 fn multi_word(opcode: u8, product: u8, alu: u8, x: u8, y: u8, alu_x: u8, alu_y: u8) -> u64 {
     field_word(computes::multi_field(opcode, product, alu, x, y, alu_x, alu_y) as u32)
@@ -42,12 +30,12 @@ fn multi_word(opcode: u8, product: u8, alu: u8, x: u8, y: u8, alu_x: u8, alu_y: 
 
 fn single() {
     named(b"single");
-    three(single_word(0, 0, 0, 0, 0));
-    three(single_word(3, 0, 0, 0, 0));
-    three(single_word(0, 0xff, 0, 0, 0));
-    three(single_word(0, 0, 15, 0, 0));
-    three(single_word(0, 0, 0, 15, 0));
-    three(single_word(0, 0, 0, 0, 15));
+    three(compute_word(0, 0, 0, 0, 0));
+    three(compute_word(3, 0, 0, 0, 0));
+    three(compute_word(0, 0xff, 0, 0, 0));
+    three(compute_word(0, 0, 15, 0, 0));
+    three(compute_word(0, 0, 0, 15, 0));
+    three(compute_word(0, 0, 0, 0, 15));
 }
 
 fn multi() {

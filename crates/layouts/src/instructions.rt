@@ -217,12 +217,7 @@ fn compute(kind: u64, made: Made) {
 
 // The computes: a single one, and the multifunction with a sum and with a difference.
 fn computed() {
-    let i = Instruction::FloatAdd {
-        dst: Register(1),
-        lhs: Register(2),
-        rhs: Register(3),
-    };
-    compute(32, computes::single(VisaInstruction::Scalar(i)));
+    compute(32, computes::single(0, 0x81, 1, 2, 3, 1));
     compute(32, computes::float_mul_alu(multifunction(AluOp::Add)));
     compute(32, computes::float_mul_alu(multifunction(AluOp::Sub)));
 }

@@ -1,5 +1,5 @@
 -- For each call that C makes: no second answer fits its promise, number 0 is acceptance, every other number is one of its table.
-use mathlib.Core.Path.{_≡_, ap₂}
+use mathlib.Core.Path.{_≡_, sym, ap, ap₂, _∙_}
 use mathlib.Core.Logic.{_↔_, _⊎_}
 use mathlib.Core.Bool.{true}
 use mathlib.Core.List.{List, _∷_}
@@ -11,13 +11,16 @@ use Rattle.rows.specs.Rows.{wellFormed}
 use Rattle.instruction.specs.Instruction.{instructionNumbers, Accepted, Encodes}
 use Rattle.instruction.proofs.Single.{no-second-answer}
 use Rattle.instruction.proofs.Numbers.{instruction-zero, instruction-numbers}
+use Rattle.places.specs.Items.{kernelOf, rowsIn}
 use Rattle.places.specs.Left.{Lent, Builds}
 use Rattle.places.proofs.Single.{no-second-build}
 use Rattle.rules.specs.Accepted.{ValidRows}
-use Rattle.rules.proofs.Answers.{accepted-well-formed, build-accepts-exactly-when-valid}
+use Rattle.rules.proofs.Answers.{accepted-well-formed, build-accepts-exactly-when-valid, accepted-count}
 use Rattle.rules.proofs.Fits.{accepted-fits}
 use Rattle.rules.specs.Tellable.{Tellable}
 use Rattle.rules.proofs.Numbers.{build-tells}
+use Rattle.plain.specs.Once.{from, writes}
+use Rattle.plain.proofs.Once.{each-once}
 use Rattle.counts.specs.declared.Counting.{Counting}
 use Rattle.counts.specs.Counts.{rowVerdict, Passes, Counts, numbersFor}
 use Rattle.counts.proofs.Single.{no-second-count}
@@ -91,3 +94,12 @@ module _ (parcels lent : List ℕ) {t : ToldBytes} {left : List ℕ} (promise : 
 
   pub written-zero : ((t .number ≡ 0) × (2 * length parcels ≤ length lent)) ⊎ ((t .number ≡ 34) × (length lent < 2 * length parcels))
   written-zero = bytes.written-or-34 parcels lent promise
+
+-- ---- lhodrupesh_build_plain: its contract is lhodrupesh_build's, so what is said of that is said of it
+-- THE TWO ENGINES AGREE on every input: the quick one's answer and every lent place, and the plain one's
+pub engines-agree : (rows names : List ℕ) (lent : Lent) {quick plain : Told} {quickly plainly : Lent} → Builds rows names lent quick quickly → Builds rows names lent plain plainly → (quick ≡ plain) × (quickly ≡ plainly)
+engines-agree rows names lent promise other = no-second-built rows names lent promise other
+
+-- in an accepted build the places that the second walk writes are 0, 1, .., count - 1, each once
+pub written-once : (rows names : List ℕ) (lent : Lent) {t : Told} {left : Lent} → Builds rows names lent t left → t .number ≡ 0 → writes (kernelOf rows names) (rowsIn rows) ≡ from 0 (t .count)
+written-once rows names lent {t} {left} promise e = each-once (kernelOf rows names) (rowsIn rows) ∙ ap (from 0) (sym (ap (λ (o : Told). o .count) (accepted-count rows names lent t left promise e)))

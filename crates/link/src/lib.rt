@@ -67,6 +67,28 @@ pub extern "C" fn lhodrupesh_build(
     ))
 }
 
+// The same call for the plain engine. A stand-in: the quick build does it.
+#[no_mangle]
+pub extern "C" fn lhodrupesh_build_plain(
+    rows: &[u32],
+    names: &[u8],
+    parcels: &mut [u16],
+    labels: &mut [u32],
+    jumps: &mut [u32],
+    loops: &mut [OpenLoop],
+) -> Told
+    ensures { λ r. ⌜ Builds (now (rows .entry)) (now (names .entry)) (lentOf (now (parcels .entry)) (now (labels .entry)) (now (jumps .entry)) (now (loops .entry))) r (lentOf (now (parcels .exit)) (now (labels .exit)) (now (jumps .exit)) (now (loops .exit))) ⌝ }
+{
+    refusals::answered(plain::build_plain(
+        rows,
+        names,
+        &mut *parcels,
+        &mut *labels,
+        &mut *jumps,
+        &mut *loops,
+    ))
+}
+
 // The parcel count of a list in numbers.
 #[no_mangle]
 pub extern "C" fn lhodrupesh_parcel_count(rows: &[u32], names: &[u8]) -> Told

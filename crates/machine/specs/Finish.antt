@@ -7,15 +7,14 @@ use Rattle.refusals.specs.declared.Refusal.{Refusal}
 use Rattle.refusals.specs.declared.Refusal.the-variants.{UnclosedLoop}
 use Rattle.refusals.specs.declared.Verdict.{Verdict}
 use Rattle.refusals.specs.declared.Verdict.the-variants.{Good, Refused}
-use Rattle.coded.specs.declared.Coded.{Coded}
 use Rattle.places.specs.declared.OpenLoop.{OpenLoop}
 use Rattle.places.specs.declared.Rooms.{Rooms}
 use Rattle.refusals.specs.declared.Answer.the-variants as answer
-use Rattle.places.specs.Items.{labelWidth, jumpWidth}
+use Rattle.places.specs.Items.{Kernel, labelWidth, jumpWidth}
 use Rattle.refusals.specs.Order.{when, orElse}
-use Rattle.places.specs.Left.{lentOf, Outcome, outcome, zeroLoop}
+use Rattle.places.specs.Left.{lentOf, Outcome, outcome, zeroLoop, withLoops}
 use Rattle.machine.specs.declared.State.{State}
-use Rattle.machine.specs.Machine.{st, Mem, memOf}
+use Rattle.machine.specs.Machine.{st, withParcels, Mem, memOf}
 use Rattle.refusals.specs.Scan.{scanChk, scanAt, scanEnd}
 use Rattle.tables.specs.Tables.{zeroed}
 use Rattle.settling.specs.Settling.{waitChk, waited}
@@ -36,32 +35,38 @@ wiped m r =
     outcome (answer.Refused r) (lentOf (zeroed (m .s .at) (m .lent .parcels)) (zeroed (labelWidth * m .s .labels) (m .lent .labels)) (zeroed (jumpWidth * m .s .jumps) (m .lent .jumps)) (m .lent .loops))
 
 abbrev pub withP : Mem → List ℕ → Mem
-withP m ps = memOf (m .s) (lentOf ps (m .lent .labels) (m .lent .jumps) (m .lent .loops))
+withP m ps = memOf (m .s) (withParcels (m .lent) ps)
 
-abbrev pub aimsOf : List ℕ → (ℕ → Coded) → Mem → Verdict
-aimsOf ns it m = scanChk (waitChk ns it (m .lent .labels) (m .s .labels) (m .lent .jumps)) (waited ns it (m .lent .labels) (m .s .labels) (m .lent .jumps)) (m .lent .parcels) (m .s .jumps) 0
+-- the waiting jumps in turn: what is said of them, and the parcels then
+module _ (k : Kernel) (m : Mem) where
+  abbrev pub waits : ℕ → List ℕ → Verdict
+  waits = waitChk k (m .lent .labels) (m .s .labels) (m .lent .jumps)
 
-abbrev pub aimsP : List ℕ → (ℕ → Coded) → Mem → List ℕ
-aimsP ns it m =
-    scanAt (waitChk ns it (m .lent .labels) (m .s .labels) (m .lent .jumps)) (waited ns it (m .lent .labels) (m .s .labels) (m .lent .jumps)) (m .lent .parcels)
-    (scanEnd (waitChk ns it (m .lent .labels) (m .s .labels) (m .lent .jumps)) (waited ns it (m .lent .labels) (m .s .labels) (m .lent .jumps)) (m .lent .parcels) (m .s .jumps) 0)
+  abbrev pub settles : ℕ → List ℕ → List ℕ
+  settles = waited k (m .lent .labels) (m .s .labels) (m .lent .jumps)
+
+  abbrev pub aimsOf : Verdict
+  aimsOf = scanChk waits settles (m .lent .parcels) (m .s .jumps) 0
+
+  abbrev pub aimsP : List ℕ
+  aimsP = scanAt waits settles (m .lent .parcels) (scanEnd waits settles (m .lent .parcels) (m .s .jumps) 0)
 
 abbrev pub aimsOut : Verdict → Mem → Outcome
 aimsOut Good m = outcome (answer.Accepted (m .s .at)) (m .lent)
 aimsOut (Refused r) m = wiped m r
 
 -- once the rows are taken in, with this verdict on them
-abbrev pub finish : List ℕ → (ℕ → Coded) → Verdict → Mem → Outcome
-finish ns it (Refused r) m = wiped m r
-finish ns it Good m = aimsOut (aimsOf ns it m) (withP m (aimsP ns it m))
+abbrev pub finish : Kernel → Verdict → Mem → Outcome
+finish k (Refused r) m = wiped m r
+finish k Good m = aimsOut (aimsOf k m) (withP m (aimsP k m))
 
 -- the verdict on the rows, 23 after theirs; the memory with every loop closed
 abbrev pub closeVerdict : Verdict → Mem → Verdict
 closeVerdict v m = orElse v (when (ltb 0 (m .s .depth)) UnclosedLoop)
 
 abbrev pub closed : Mem → Mem
-closed m = memOf (level 0 (m .s)) (lentOf (m .lent .parcels) (m .lent .labels) (m .lent .jumps) (shut (m .s .depth) (m .lent .loops)))
+closed m = memOf (level 0 (m .s)) (withLoops (m .lent) (shut (m .s .depth) (m .lent .loops)))
 
--- n rows in a memory
-abbrev pub outOf : List ℕ → Rooms → (ℕ → Coded) → ℕ → Mem → Outcome
-outOf ns r it n m = finish ns it (closeVerdict (rowsVerdict ns r it n m) (rowsMem ns r it n m)) (closed (rowsMem ns r it n m))
+-- the rows of a kernel in a memory
+abbrev pub outOf : Kernel → Rooms → Mem → Outcome
+outOf k r m = finish k (closeVerdict (rowsVerdict k r m) (rowsMem k r m)) (closed (rowsMem k r m))

@@ -2,16 +2,15 @@
 use mathlib.Core.Path.{_≡_}
 use mathlib.Core.Bool.{Bool, true, cond, _&&_}
 use mathlib.Core.List.{List, [], _∷_}
-use Prim.Native.Nat.{ℕ, zero, _+_, _-_, _*_, _≤_, _<_, _%_}
+use Prim.Native.Nat.{ℕ, _+_, _-_, _*_, _≤_, _<_, _%_}
 use lib.ListN.{length, getD, set}
 use lib.Dec.{ltb, eqb}
 use lib.Seq.{sets}
-use lib.IntN.{ℤ, pos, _-ℤ_}
-use Rattle.refusals.specs.declared.Refusal.the-variants.{DuplicateLabel, EmptyLoop, UnmatchedLoopEnd, SharedLoopEnd, LoopTailNotFullWidth, BranchInLoop, LabelInLoop, NoRoomForParcels, NoRoomForLabels, NoRoomForJumps, NoRoomForLoops}
+use lib.IntN.{pos, _-ℤ_}
+use Rattle.refusals.specs.declared.Refusal.the-variants.{EmptyLoop, UnmatchedLoopEnd, SharedLoopEnd, LoopTailNotFullWidth}
 use Rattle.refusals.specs.declared.Verdict.{Verdict}
 use Rattle.refusals.specs.declared.Verdict.the-variants.{Good, Refused}
 use Rattle.refusals.specs.Order.{when, first, ifGood}
-use Rattle.items.specs.Kinds.{isBranch}
 use Rattle.items.specs.declared.LoopCount.{LoopCount}
 use Rattle.items.specs.declared.LoopCount.the-variants.{Immediate, Register}
 use Rattle.items.specs.declared.LoopMode.{LoopMode}
@@ -25,10 +24,12 @@ use Rattle.coded.specs.declared.Coded.the-variants.{Instruction, Label, Jump, L
 use Rattle.places.specs.declared.OpenLoop.{OpenLoop}
 use Rattle.places.specs.declared.Rooms.{Rooms}
 use Rattle.coded.specs.Coded.{ofJump}
-use Rattle.places.specs.Items.{sizeOf, addressOf, labelWidth, jumpWidth, mostParcels, mostEntries, mostLoops}
+use Rattle.places.specs.Items.{sizeOf, addressOf, labelWidth, jumpWidth}
 use Rattle.places.specs.Looking.{loopTail}
-use Rattle.places.specs.Left.{Lent, zeros, zeroLoop}
-use Rattle.tables.specs.Tables.{lookup, isThere, Entries}
+use Rattle.places.specs.Left.{Lent, lentOf, zeros, zeroLoop}
+use Rattle.tables.specs.Tables.{Entries}
+use Rattle.checks.specs.Checks.{instructionChk, labelChk, jumpChk, beginChk}
+use Rattle.checks.specs.Rooming.{Rooming, RoomingIn}
 use Rattle.machine.specs.declared.State.{State}
 use Rattle.machine.specs.declared.Step.{Step}
 use Rattle.machine.specs.declared.Step.the-variants.{On, Opened, Closed, Stop}
@@ -57,38 +58,7 @@ topOf s ks = getD ks (s .depth - 1) zeroLoop
 unfoldable pub topForm : State → OpenLoop → Form
 topForm s top = loopForm (countFrom (top .count)) (modeFrom (top .mode)) (pos (s .last) -ℤ pos (addressOf (top .place)))
 
--- ---- what each kind of row checks
-abbrev pub instructionChk : State → Rooms → Coding → Verdict
-instructionChk s r c =
-    first
-    (when (isBranch (c .kind) && ltb 0 (s .depth)) BranchInLoop
-    ∷ formVerdict (c .form)
-    ∷ when (ltb (r .parcels) (s .at + sizeOf (c .form))) (NoRoomForParcels (r .parcels))
-    ∷ [])
-
-abbrev pub labelChk : List ℕ → State → Rooms → List ℕ → ℕ → ℕ → Verdict
-labelChk ns s r ls a b =
-    first
-    (when (ltb 0 (s .depth)) (LabelInLoop a b)
-    ∷ when (isThere (lookup ns ls a b (s .labels) 0)) (DuplicateLabel a b)
-    ∷ when (ltb (r .labels) (s .labels + 1)) (NoRoomForLabels (r .labels))
-    ∷ [])
-
-abbrev pub jumpChk : State → Rooms → Verdict
-jumpChk s r =
-    first
-    (when (ltb 0 (s .depth)) BranchInLoop
-    ∷ when (ltb (r .jumps) (s .jumps + 1)) (NoRoomForJumps (r .jumps))
-    ∷ when (ltb (r .parcels) (s .at + 3)) (NoRoomForParcels (r .parcels))
-    ∷ [])
-
-abbrev pub beginChk : State → Rooms → Verdict
-beginChk s r =
-    first
-    (when (ltb (r .loops) (s .depth + 1)) (NoRoomForLoops (r .loops))
-    ∷ when (ltb (r .parcels) (s .at + 3)) (NoRoomForParcels (r .parcels))
-    ∷ [])
-
+-- ---- what a loop end checks; the other kinds of rows: checks/specs/Checks.antt
 -- the latest short instruction is one of the last 11 of the body
 abbrev pub tailShort : ℕ → ℕ → ℕ → Bool
 tailShort begin short count = ltb begin short && ltb count (short + loopTail)
@@ -134,21 +104,21 @@ stepBy Good x = x
 stepBy (Refused r) x = Stop r
 
 pub record Instructed (s : State) (r : Rooms) (c : Coding) (p : List ℕ) (x : Step) (p′ : List ℕ) : Type 0 where
-  pub answer : x ≡ stepBy (instructionChk s r c) (On (advanced (sizeOf (c .form)) s))
-  pub parcels : p′ ≡ ifGood (instructionChk s r c) (sets p (s .at) (formParcels (c .form))) p
+  pub answer : x ≡ stepBy (instructionChk r (s .at) (s .depth) c) (On (advanced (sizeOf (c .form)) s))
+  pub parcels : p′ ≡ ifGood (instructionChk r (s .at) (s .depth) c) (sets p (s .at) (formParcels (c .form))) p
 
 pub record Labelled (ns : List ℕ) (s : State) (r : Rooms) (ls : List ℕ) (a b : ℕ) (x : Step) (ls′ : List ℕ) : Type 0 where
-  pub answer : x ≡ stepBy (labelChk ns s r ls a b) (On (labelNext s))
-  pub labels : ls′ ≡ ifGood (labelChk ns s r ls a b) (sets ls (labelWidth * s .labels) (a ∷ b ∷ addressOf (s .at) ∷ [])) ls
+  pub answer : x ≡ stepBy (labelChk r (s .depth) ns ls (s .labels) a b) (On (labelNext s))
+  pub labels : ls′ ≡ ifGood (labelChk r (s .depth) ns ls (s .labels) a b) (sets ls (labelWidth * s .labels) (a ∷ b ∷ addressOf (s .at) ∷ [])) ls
 
 pub record Jumped (s : State) (r : Rooms) (row : ℕ) (p js : List ℕ) (x : Step) (p′ js′ : List ℕ) : Type 0 where
-  pub answer : x ≡ stepBy (jumpChk s r) (On (jumpNext s))
-  pub parcels : p′ ≡ ifGood (jumpChk s r) (sets p (s .at) zeros) p
-  pub jumps : js′ ≡ ifGood (jumpChk s r) (sets js (jumpWidth * s .jumps) (s .at ∷ row ∷ [])) js
+  pub answer : x ≡ stepBy (jumpChk r (s .at) (s .jumps) (s .depth)) (On (jumpNext s))
+  pub parcels : p′ ≡ ifGood (jumpChk r (s .at) (s .jumps) (s .depth)) (sets p (s .at) zeros) p
+  pub jumps : js′ ≡ ifGood (jumpChk r (s .at) (s .jumps) (s .depth)) (sets js (jumpWidth * s .jumps) (s .at ∷ row ∷ [])) js
 
 pub record Begun (s : State) (r : Rooms) (c : LoopCount) (m : LoopMode) (p : List ℕ) (x : Step) (p′ : List ℕ) : Type 0 where
-  pub answer : x ≡ stepBy (beginChk s r) (Opened (beginNext s) (beginRecord s c m))
-  pub parcels : p′ ≡ ifGood (beginChk s r) (sets p (s .at) zeros) p
+  pub answer : x ≡ stepBy (beginChk r (s .at) (s .depth)) (Opened (beginNext s) (beginRecord s c m))
+  pub parcels : p′ ≡ ifGood (beginChk r (s .at) (s .depth)) (sets p (s .at) zeros) p
 
 pub record Ended (s : State) (top : OpenLoop) (p : List ℕ) (x : Step) (p′ : List ℕ) : Type 0 where
   pub answer : x ≡ stepBy (endChk s top) (Closed (endNext s))
@@ -156,10 +126,10 @@ pub record Ended (s : State) (top : OpenLoop) (p : List ℕ) (x : Step) (p′ : 
 
 -- ---- what a row checks, and what it makes of the state and each buffer, the innermost open loop having the record top
 abbrev pub checkRow : List ℕ → Rooms → Coded → State → List ℕ → OpenLoop → Verdict
-checkRow ns r (Instruction c) s ls top = instructionChk s r c
-checkRow ns r (Label a b) s ls top = labelChk ns s r ls a b
-checkRow ns r (Jump c a b) s ls top = jumpChk s r
-checkRow ns r (LoopBegin c k) s ls top = beginChk s r
+checkRow ns r (Instruction c) s ls top = instructionChk r (s .at) (s .depth) c
+checkRow ns r (Label a b) s ls top = labelChk r (s .depth) ns ls (s .labels) a b
+checkRow ns r (Jump c a b) s ls top = jumpChk r (s .at) (s .jumps) (s .depth)
+checkRow ns r (LoopBegin c k) s ls top = beginChk r (s .at) (s .depth)
 checkRow ns r LoopEnd s ls top = endChk s top
 checkRow ns r (coded.Refused why) s ls top = Refused why
 
@@ -204,11 +174,22 @@ loopsBy (Opened s′ start) s ks = set ks (s .depth) start
 loopsBy (Closed s′) s ks = set ks (s .depth - 1) zeroLoop
 loopsBy (Stop r) s ks = ks
 
-pub record Stepped (ns : List ℕ) (r : Rooms) (rd : Coded) (row : ℕ) (s : State) (p l j : List ℕ) (top : OpenLoop) (x : Step) (p′ l′ j′ : List ℕ) : Type 0 where
-  pub answer : x ≡ stepBy (checkRow ns r rd s l top) (stepRow rd s)
-  pub parcels : p′ ≡ ifGood (checkRow ns r rd s l top) (parcelsRow rd s top p) p
-  pub labels : l′ ≡ ifGood (checkRow ns r rd s l top) (labelsRow rd s l) l
-  pub jumps : j′ ≡ ifGood (checkRow ns r rd s l top) (jumpsRow row rd s j) j
+-- the loop table stays out of it
+pub record Stepped (ns : List ℕ) (r : Rooms) (rd : Coded) (row : ℕ) (s : State) (lent : Lent) (top : OpenLoop) (x : Step) (left : Lent) : Type 0 where
+  pub answer : x ≡ stepBy (checkRow ns r rd s (lent .labels) top) (stepRow rd s)
+  pub parcels : left .parcels ≡ ifGood (checkRow ns r rd s (lent .labels) top) (parcelsRow rd s top (lent .parcels)) (lent .parcels)
+  pub labels : left .labels ≡ ifGood (checkRow ns r rd s (lent .labels) top) (labelsRow rd s (lent .labels)) (lent .labels)
+  pub jumps : left .jumps ≡ ifGood (checkRow ns r rd s (lent .labels) top) (jumpsRow row rd s (lent .jumps)) (lent .jumps)
+
+-- ---- the buffers with one of them another
+abbrev pub withParcels : Lent → List ℕ → Lent
+withParcels lent p = lentOf p (lent .labels) (lent .jumps) (lent .loops)
+
+abbrev pub withLabels : Lent → List ℕ → Lent
+withLabels lent l = lentOf (lent .parcels) l (lent .jumps) (lent .loops)
+
+abbrev pub withJumps : Lent → List ℕ → Lent
+withJumps lent j = lentOf (lent .parcels) (lent .labels) j (lent .loops)
 
 -- ---- the state and the buffers together
 pub record Mem : Type 0 where
@@ -232,17 +213,6 @@ next row rd m =
     })
 
 -- ---- what stays true while rows are accepted
--- the rooms lie within the buffers and the limits
-pub record Rooming (r : Rooms) (p l j k : ℕ) : Type 0 where
-  pub parcels-in : r .parcels ≤ p
-  pub parcels-few : r .parcels ≤ mostParcels
-  pub labels-in : labelWidth * r .labels ≤ l
-  pub labels-few : r .labels ≤ mostEntries
-  pub jumps-in : jumpWidth * r .jumps ≤ j
-  pub jumps-few : r .jumps ≤ mostEntries
-  pub loops-in : r .loops ≤ k
-  pub loops-few : r .loops ≤ mostLoops
-
 -- an open loop's record: the parcels of its start are written
 abbrev pub StartFine : State → OpenLoop → Type 0
 StartFine s start = (start .place + 3 ≤ s .at) × (addressOf (start .place) ≤ s .last)
@@ -265,14 +235,14 @@ pub record Within (s : State) (r : Rooms) : Type 0 where
   pub shortat-in : s .shortat ≤ s .at
 
 -- what a row leans on, but for the loop table
-pub record Fine (ns : List ℕ) (r : Rooms) (s : State) (p l j : List ℕ) (top : OpenLoop) : Type 0 where
-  pub rooming : Rooming r (length p) (length l) (length j) (r .loops)
+pub record Fine (ns : List ℕ) (r : Rooms) (s : State) (lent : Lent) (top : OpenLoop) : Type 0 where
+  pub rooming : Rooming r (length (lent .parcels)) (length (lent .labels)) (length (lent .jumps)) (r .loops)
   pub within : Within s r
-  pub entries : Entries ns l (s .labels)
+  pub entries : Entries ns (lent .labels) (s .labels)
   pub top-fine : TopFine s top
 
 pub record GoodFor (ns : List ℕ) (r : Rooms) (m : Mem) : Type 0 where
-  pub rooming : Rooming r (length (m .lent .parcels)) (length (m .lent .labels)) (length (m .lent .jumps)) (length (m .lent .loops))
+  pub rooming : RoomingIn r (m .lent)
   pub within : Within (m .s) r
   pub entries : Entries ns (m .lent .labels) (m .s .labels)
   pub starts : Starts (m .s) (m .lent .loops)

@@ -2,23 +2,19 @@
 mod records;
 
 ghost use mathlib.Core.Path.{_≡_};
-ghost use mathlib.Core.Bool.{_&&_};
+ghost use mathlib.Core.List.{[]};
 ghost use Prim.Native.Nat.{_+_, _-_, _*_, _≤_, _<_};
 ghost use lib.ListN.{length};
-ghost use lib.Dec.{ltb};
 ghost use lib.Seq.{sets};
-ghost use Rattle.refusals.specs.declared.Refusal.the-variants.{NoRoomForParcels};
-ghost use Rattle.refusals.specs.Order.{when};
-ghost use Rattle.items.specs.Kinds.{isBranch};
 ghost use Rattle.encode.specs.Encoding.{settled};
-ghost use Rattle.places.specs.Items.{sizeOf, labelWidth, jumpWidth, mostParcels, mostEntries, mostLoops};
+ghost use Rattle.places.specs.Items.{labelWidth, jumpWidth, mostParcels, mostEntries, mostLoops};
+ghost use Rattle.places.specs.Left.{lentOf};
 ghost use Rattle.coded.specs.Fine.{CodedFine};
 ghost use Rattle.tables.specs.Tables.{Entries};
-ghost use Rattle.machine.specs.Machine.{advanced, endNext, tailShort, topForm, instructionChk, labelChk, jumpChk, beginChk, endChk, Instructed, Labelled, Jumped, Begun, Ended, TopFine, Within, Fine, Stepped};
+ghost use Rattle.machine.specs.Machine.{advanced, endNext, tailShort, topForm, endChk, Instructed, Labelled, Jumped, Begun, Ended, TopFine, Within, Fine, Stepped};
 use coded::Coded;
 use coded::Coding;
 use encode::Form;
-use items::Kind;
 use items::LoopCount;
 use items::LoopMode;
 use places::JUMP_WIDTH;
@@ -28,7 +24,6 @@ use places::OpenLoop;
 use places::Rooms;
 use refusals::Refusal;
 use refusals::Verdict;
-use tables::Sought;
 
 // Where a build stands.
 pub struct State {
@@ -100,51 +95,12 @@ impl State {
         self
     }
 
-    // Whether n parcels fit into their room, after those that stand.
-    fn room_check(self, rooms: Rooms, n: usize) -> Verdict
-        requires { ⌜ (self .at ≤ mostParcels) × (rooms .parcels ≤ mostParcels) × (n ≤ 6) ⌝ }
-        ensures { λ r. ⌜ r ≡ when (ltb (rooms .parcels) (self .at + n)) (NoRoomForParcels (rooms .parcels)) ⌝ }
-    {
-        let room = rooms.parcels;
-        if room < self.at + n {
-            return Verdict::Refused(Refusal::NoRoomForParcels(room as u32));
-        }
-        Verdict::Good
-    }
-
-    // Whether a branch would stand in a loop.
-    fn bars(self, kind: Kind) -> bool
-        ensures { λ r. ⌜ r ≡ (isBranch kind && ltb 0 (self .depth)) ⌝ }
-    {
-        if items::is_branch(kind) {
-            return 0 < self.depth;
-        }
-        false
-    }
-
-    // What an instruction is refused for: a branch in a loop, its encoding, the room.
-    fn instruction_check(self, rooms: Rooms, coding: Coding) -> Verdict
-        requires { ⌜ (self .at ≤ mostParcels) × (rooms .parcels ≤ mostParcels) ⌝ }
-        ensures { λ r. ⌜ r ≡ instructionChk self rooms coding ⌝ }
-    {
-        let form = coding.form;
-        let kind = coding.kind;
-        if self.bars(kind) {
-            return Verdict::Refused(Refusal::BranchInLoop);
-        }
-        let encodes = encode::form_verdict(form);
-        match encodes {
-            Verdict::Refused(r) => Verdict::Refused(r),
-            Verdict::Good => self.room_check(rooms, encode::form_size(form)),
-        }
-    }
-
     // An instruction: its parcels stand at the next place.
     fn instruction(self, rooms: Rooms, coding: Coding, parcels: &mut [u16]) -> Step
         requires { ⌜ (Within self rooms) × (rooms .parcels ≤ length (now parcels)) × (rooms .parcels ≤ mostParcels) ⌝ }
         ensures { λ r. ⌜ Instructed self rooms coding (now (parcels .entry)) r (now (parcels .exit)) ⌝ }
     {
-        let k = self.instruction_check(rooms, coding);
+        let k = checks::instruction(rooms, self.at, self.depth, coding);
         match k {
             Verdict::Refused(r) => {
                 return Step::Stop(r);
@@ -152,38 +108,8 @@ impl State {
             Verdict::Good => {}
         }
         let form = coding.form;
-        records::put_form(parcels, self.at, form);
+        tables::put_form(parcels, self.at, form);
         Step::On(self.advance(encode::form_size(form)))
-    }
-
-    // What a label is refused for: a loop around it, the same name before it, the room.
-    fn label_check(
-        self,
-        rooms: Rooms,
-        names: &[u8],
-        labels: &[u32],
-        start: u32,
-        len: u32,
-    ) -> Verdict
-        requires { ⌜ (self .labels ≤ rooms .labels) × (rooms .labels ≤ mostEntries) × (labelWidth * rooms .labels ≤ length (now labels)) × (start + len ≤ length (now names)) × Entries (now names) (now labels) (self .labels) ⌝ }
-        ensures { λ r. ⌜ r ≡ labelChk (now (names .entry)) self rooms (now (labels .entry)) start len ⌝ }
-    {
-        if 0 < self.depth {
-            return Verdict::Refused(Refusal::LabelInLoop(start, len));
-        }
-        let n = self.labels;
-        let found = tables::names::find(names, labels, n, start as usize, len as usize);
-        match found {
-            Sought::At(_) => {
-                return Verdict::Refused(Refusal::DuplicateLabel(start, len));
-            }
-            Sought::Nowhere => {}
-        }
-        let room = rooms.labels;
-        if room < n + 1 {
-            return Verdict::Refused(Refusal::NoRoomForLabels(room as u32));
-        }
-        Verdict::Good
     }
 
     // A label: its name's range and its address stand in the next label entry.
@@ -191,14 +117,14 @@ impl State {
         requires { ⌜ (Within self rooms) × (rooms .parcels ≤ mostParcels) × (rooms .labels ≤ mostEntries) × (labelWidth * rooms .labels ≤ length (now labels)) × (start + len ≤ length (now names)) × Entries (now names) (now labels) (self .labels) ⌝ }
         ensures { λ r. ⌜ Labelled (now (names .entry)) self rooms (now (labels .entry)) start len r (now (labels .exit)) ⌝ }
     {
-        let k = self.label_check(rooms, names, labels, start, len);
+        let n = self.labels;
+        let k = checks::label(rooms, self.depth, names, labels, n, start, len);
         match k {
             Verdict::Refused(r) => {
                 return Step::Stop(r);
             }
             Verdict::Good => {}
         }
-        let n = self.labels;
         tables::store(
             labels,
             LABEL_WIDTH * n,
@@ -209,35 +135,20 @@ impl State {
         Step::On(self)
     }
 
-    // What a jump is refused for: a loop around it, the rooms.
-    fn jump_check(self, rooms: Rooms) -> Verdict
-        requires { ⌜ (Within self rooms) × (rooms .parcels ≤ mostParcels) × (rooms .jumps ≤ mostEntries) ⌝ }
-        ensures { λ r. ⌜ r ≡ jumpChk self rooms ⌝ }
-    {
-        if 0 < self.depth {
-            return Verdict::Refused(Refusal::BranchInLoop);
-        }
-        let room = rooms.jumps;
-        if room < self.jumps + 1 {
-            return Verdict::Refused(Refusal::NoRoomForJumps(room as u32));
-        }
-        self.room_check(rooms, 3)
-    }
-
     // A jump: three zeros wait for its word, and its place and row stand in the next jump entry.
     fn jump(self, rooms: Rooms, row: u32, parcels: &mut [u16], jumps: &mut [u32]) -> Step
         requires { ⌜ (Within self rooms) × (rooms .parcels ≤ length (now parcels)) × (rooms .parcels ≤ mostParcels) × (rooms .jumps ≤ mostEntries) × (jumpWidth * rooms .jumps ≤ length (now jumps)) ⌝ }
         ensures { λ r. ⌜ Jumped self rooms row (now (parcels .entry)) (now (jumps .entry)) r (now (parcels .exit)) (now (jumps .exit)) ⌝ }
     {
-        let k = self.jump_check(rooms);
+        let at = self.at;
+        let n = self.jumps;
+        let k = checks::jump(rooms, at, n, self.depth);
         match k {
             Verdict::Refused(r) => {
                 return Step::Stop(r);
             }
             Verdict::Good => {}
         }
-        let at = self.at;
-        let n = self.jumps;
         writer::emit(parcels, at, [0; 6], 3);
         tables::store(jumps, JUMP_WIDTH * n, [at as u32, row, 0, 0], JUMP_WIDTH);
         let mut next = self.advance(3);
@@ -245,31 +156,19 @@ impl State {
         Step::On(next)
     }
 
-    // What a loop start is refused for: the rooms.
-    fn begin_check(self, rooms: Rooms) -> Verdict
-        requires { ⌜ (Within self rooms) × (rooms .parcels ≤ mostParcels) × (rooms .loops ≤ mostLoops) ⌝ }
-        ensures { λ r. ⌜ r ≡ beginChk self rooms ⌝ }
-    {
-        let room = rooms.loops;
-        if room < self.depth + 1 {
-            return Verdict::Refused(Refusal::NoRoomForLoops(room as u32));
-        }
-        self.room_check(rooms, 3)
-    }
-
     // A loop start: three zeros wait for its word; its record holds its place, its first body entry, its count and its mode.
     fn loop_begin(self, rooms: Rooms, count: LoopCount, mode: LoopMode, parcels: &mut [u16]) -> Step
         requires { ⌜ (Within self rooms) × (rooms .parcels ≤ length (now parcels)) × (rooms .parcels ≤ mostParcels) × (rooms .loops ≤ mostLoops) ⌝ }
         ensures { λ r. ⌜ Begun self rooms count mode (now (parcels .entry)) r (now (parcels .exit)) ⌝ }
     {
-        let k = self.begin_check(rooms);
+        let at = self.at;
+        let k = checks::loop_begin(rooms, at, self.depth);
         match k {
             Verdict::Refused(r) => {
                 return Step::Stop(r);
             }
             Verdict::Good => {}
         }
-        let at = self.at;
         let mut next = self.advance(3);
         writer::emit(parcels, at, [0; 6], 3);
         let start = OpenLoop {
@@ -352,8 +251,8 @@ impl State {
         jumps: &mut [u32],
         top: OpenLoop,
     ) -> Step
-        requires { ⌜ (Fine (now names) rooms self (now parcels) (now labels) (now jumps) top) × CodedFine (length (now names)) coded ⌝ }
-        ensures { λ r. ⌜ Stepped (now (names .entry)) rooms coded row self (now (parcels .entry)) (now (labels .entry)) (now (jumps .entry)) top r (now (parcels .exit)) (now (labels .exit)) (now (jumps .exit)) ⌝ }
+        requires { ⌜ (Fine (now names) rooms self (lentOf (now parcels) (now labels) (now jumps) []) top) × CodedFine (length (now names)) coded ⌝ }
+        ensures { λ r. ⌜ Stepped (now (names .entry)) rooms coded row self (lentOf (now (parcels .entry)) (now (labels .entry)) (now (jumps .entry)) []) top r (lentOf (now (parcels .exit)) (now (labels .exit)) (now (jumps .exit)) []) ⌝ }
     {
         match coded {
             Coded::Instruction(coding) => self.instruction(rooms, coding, parcels),

@@ -1,11 +1,6 @@
-// Loop records as numbers, and a form's parcels put into the lent ones.
+// Loop records as numbers.
 ghost use mathlib.Core.Path.{_≡_};
-ghost use Prim.Native.Nat.{_+_, _≤_};
-ghost use lib.ListN.{length};
-ghost use lib.Seq.{sets};
-ghost use Rattle.encode.specs.Encoding.{formParcels};
 ghost use Rattle.machine.specs.Machine.{countNumber, countFrom, modeNumber, modeFrom};
-use encode::Form;
 use items::LoopCount;
 use items::LoopMode;
 use registers::UniversalRegister;
@@ -48,14 +43,4 @@ pub fn mode_from(n: u32) -> LoopMode
         return LoopMode::E2Active;
     }
     LoopMode::F1Active
-}
-
-// The parcels of a form stand at `at`. The answer is the place past them.
-pub fn put_form(parcels: &mut [u16], at: usize, form: Form) -> usize
-    requires { ⌜ at + length (formParcels form) ≤ length (now parcels) ⌝ }
-    ensures { λ r. ⌜ (r ≡ at + length (formParcels form)) × (now (parcels .exit) ≡ sets (now (parcels .entry)) at (formParcels form)) ⌝ }
-{
-    let cut = encode::cut_form(form);
-    let words = cut.places;
-    writer::emit(parcels, at, words, cut.count)
 }

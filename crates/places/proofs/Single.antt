@@ -14,9 +14,9 @@ left-is b = λ i. lentOf (b .parcels i) (b .labels i) (b .jumps i) (b .loops i)
 pub no-second-build : (rows names : List ℕ) (lent : Lent) (t t′ : Told) (x x′ : Lent) → Builds rows names lent t x → Builds rows names lent t′ x′ → (t ≡ t′) × (x ≡ x′)
 no-second-build rows names lent t t′ x x′ b c = (b .answer ∙ sym (c .answer), left-is b ∙ sym (left-is c))
 
-pub no-second-alone : (rows names p l j : List ℕ) (t t′ : Told) (P P′ L L′ J J′ : List ℕ) → BuildsAlone rows names p l j t P L J → BuildsAlone rows names p l j t′ P′ L′ J′
-    → (t ≡ t′) × (P ≡ P′) × (L ≡ L′) × (J ≡ J′)
-no-second-alone rows names p l j t t′ P P′ L L′ J J′ b c =
+pub no-second-alone : (rows names : List ℕ) (lent : Lent) (t t′ : Told) (x x′ : Lent) → BuildsAlone rows names lent t x → BuildsAlone rows names lent t′ x′
+    → (t ≡ t′) × (x .parcels ≡ x′ .parcels) × (x .labels ≡ x′ .labels) × (x .jumps ≡ x′ .jumps)
+no-second-alone rows names lent t t′ x x′ b c =
     (b .answer ∙ sym (c .answer), b .parcels ∙ sym (c .parcels), b .labels ∙ sym (c .labels), b .jumps ∙ sym (c .jumps))
 
 -- no second name fits an answer

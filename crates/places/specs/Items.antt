@@ -11,6 +11,7 @@ use Rattle.coded.specs.declared.Coded.{Coded}
 use Rattle.coded.specs.declared.Coded.the-variants.{Instruction, Label, Jump, LoopBegin, LoopEnd, Refused}
 use Rattle.coded.specs.Coded.{codedOf}
 use Rattle.places.specs.declared.Rooms.{Rooms}
+use Rattle.places.specs.declared.Traits.{Traits}
 
 -- what row i of a slice comes to, and how many rows it has
 abbrev pub rowAt : List ℕ → List ℕ → ℕ → Coded
@@ -19,19 +20,21 @@ rowAt rows names i = codedOf (readOf (take rowWidth (drop (i * rowWidth) rows)) 
 abbrev pub rowsIn : List ℕ → ℕ
 rowsIn rows = length rows / rowWidth
 
+-- what is given to a build: the names, what each row comes to, how many rows
+pub record Kernel : Type 0 where
+  pub names : List ℕ
+  pub it : ℕ → Coded
+  pub n : ℕ
+
+abbrev pub kernel : List ℕ → (ℕ → Coded) → ℕ → Kernel
+kernel names it n = record { names = names; it = it; n = n }
+
+-- the rows of a slice, with their names
+abbrev pub kernelOf : List ℕ → List ℕ → Kernel
+kernelOf rows names = kernel names (rowAt rows names) (rowsIn rows)
+
 -- what an item counts for: its parcels; 1 if it is an instruction entry, a label, a waiting jump, an instruction
 -- that does not take three parcels, a loop start, a loop end; its name's start and length
-pub record Traits : Type 0 where
-  pub size : ℕ
-  pub entry : ℕ
-  pub label : ℕ
-  pub jump : ℕ
-  pub short : ℕ
-  pub opens : ℕ
-  pub closes : ℕ
-  pub start : ℕ
-  pub len : ℕ
-
 abbrev pub traits : ℕ → ℕ → ℕ → ℕ → ℕ → ℕ → ℕ → ℕ → ℕ → Traits
 traits s e l j n o c a b = record { size = s; entry = e; label = l; jump = j; short = n; opens = o; closes = c; start = a; len = b }
 

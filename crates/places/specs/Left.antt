@@ -21,9 +21,9 @@ use Rattle.coded.specs.declared.Coded.the-variants as coded
 use Rattle.coded.specs.declared.Coded.the-variants.{Instruction, Label, Jump, LoopBegin, LoopEnd}
 use Rattle.places.specs.declared.OpenLoop.{OpenLoop}
 use Rattle.places.specs.declared.Rooms.{Rooms}
-use Rattle.places.specs.Items.{rowAt, rowsIn, place, address, roomsOf}
+use Rattle.places.specs.Items.{Kernel, kernelOf, place, address, roomsOf}
 use Rattle.places.specs.Looking.{Found, at, nothing, closer, deepest, labelled, part}
-use Rattle.places.specs.Verdict.{jumpOffset, loopOffset, Kernel, kernel, verdict, taken}
+use Rattle.places.specs.Verdict.{jumpOffset, loopOffset, verdict, taken}
 
 -- what is lent: "parcels", "label entries", "waiting jumps", and "a lent table of loop records"
 pub record Lent : Type 0 where
@@ -34,6 +34,10 @@ pub record Lent : Type 0 where
 
 abbrev pub lentOf : List ℕ → List ℕ → List ℕ → List OpenLoop → Lent
 lentOf p l j k = record { parcels = p; labels = l; jumps = j; loops = k }
+
+-- with other loop records
+abbrev pub withLoops : Lent → List OpenLoop → Lent
+withLoops lent ks = lentOf (lent .parcels) (lent .labels) (lent .jumps) ks
 
 abbrev pub roomsIn : Lent → Rooms
 roomsIn lent = roomsOf (length (lent .parcels)) (length (lent .labels)) (length (lent .jumps)) (length (lent .loops))
@@ -55,14 +59,17 @@ module _ (it : ℕ → Coded) where
   loopParcels c m i (at e) = settled (loopForm c m (loopOffset it e i))
   loopParcels c m i nothing = zeros
 
--- what item i of n leaves: parcels; "Label entries (start, length, place) and waiting jumps (place, row)"
-abbrev pub left : List ℕ → (ℕ → Coded) → ℕ → ℕ → Coded → Lent
-left names it n i (Instruction c) = lentOf (formParcels (c .form)) [] [] []
-left names it n i (Label a b) = lentOf [] (a ∷ b ∷ address it i ∷ []) [] []
-left names it n i (Jump c a b) = lentOf (jumpParcels it c i (labelled names it a b n)) [] (place it i ∷ i ∷ []) []
-left names it n i (LoopBegin c m) = lentOf (loopParcels it c m i (closer it n i)) [] [] []
-left names it n i LoopEnd = lentOf [] [] [] []
-left names it n i (coded.Refused r) = lentOf [] [] [] []
+module _ (k : Kernel) where
+  open Kernel k using (it, n)
+
+  -- what item i leaves: parcels; "Label entries (start, length, place) and waiting jumps (place, row)"
+  abbrev pub left : ℕ → Coded → Lent
+  left i (Instruction c) = lentOf (formParcels (c .form)) [] [] []
+  left i (Label a b) = lentOf [] (a ∷ b ∷ address it i ∷ []) [] []
+  left i (Jump c a b) = lentOf (jumpParcels it c i (labelled k a b n)) [] (place it i ∷ i ∷ []) []
+  left i (LoopBegin c m) = lentOf (loopParcels it c m i (closer it n i)) [] [] []
+  left i LoopEnd = lentOf [] [] [] []
+  left i (coded.Refused r) = lentOf [] [] [] []
 
 -- f 0, .., f (i - 1), one after the other
 abbrev pub gather : (ℕ → List ℕ) → ℕ → List ℕ
@@ -82,6 +89,8 @@ abbrev pub outcome : Answer → Lent → Outcome
 outcome a lent = record { answer = a; lent = lent }
 
 module _ (k : Kernel) (lent : Lent) where
+  open Kernel k using (it, n)
+
   abbrev pub judged : Verdict
   judged = verdict k (roomsIn lent)
 
@@ -89,23 +98,19 @@ module _ (k : Kernel) (lent : Lent) where
   took = taken k (roomsIn lent)
 
   abbrev pub leftBy : ℕ → Lent
-  leftBy i = left (k .names) (k .it) (k .n) i (k .it i)
+  leftBy i = left k i (it i)
 
   -- zeros "in the parcels, label entries and jump entries that the rows before the refused one took .., and in the loop places up to
   -- their deepest nesting"; accepted: "used loop places zero"
   abbrev pub built : Outcome
   built =
-      outcome (answerOf judged (place (k .it) (k .n)))
+      outcome (answerOf judged (place it n))
       (record {
         parcels = put judged (gather (λ i. leftBy i .parcels) took) (lent .parcels);
         labels = put judged (gather (λ i. leftBy i .labels) took) (lent .labels);
         jumps = put judged (gather (λ i. leftBy i .jumps) took) (lent .jumps);
-        loops = replicate (deepest (k .it) took) zeroLoop ++ drop (deepest (k .it) took) (lent .loops);
+        loops = replicate (deepest it took) zeroLoop ++ drop (deepest it took) (lent .loops);
       })
-
--- the rows of a slice, with their names
-abbrev pub kernelOf : List ℕ → List ℕ → Kernel
-kernelOf rows names = kernel names (rowAt rows names) (rowsIn rows)
 
 -- 1 changes nothing; else the rows are built
 abbrev pub buildOf : List ℕ → List ℕ → Lent → Outcome
@@ -120,9 +125,9 @@ pub record Builds (rows names : List ℕ) (lent : Lent) (told : Told) (left : Le
   pub loops : left .loops ≡ buildOf rows names lent .lent .loops
 
 -- the same with 64 loop records of its own, all zero
-abbrev pub BuildsAlone : List ℕ → List ℕ → List ℕ → List ℕ → List ℕ → Told → List ℕ → List ℕ → List ℕ → Type 0
-BuildsAlone rows names p l j told p′ l′ j′ =
-    Builds rows names (lentOf p l j (replicate 64 zeroLoop)) told (lentOf p′ l′ j′ (buildOf rows names (lentOf p l j (replicate 64 zeroLoop)) .lent .loops))
+abbrev pub BuildsAlone : List ℕ → List ℕ → Lent → Told → Lent → Type 0
+BuildsAlone rows names lent told left =
+    Builds rows names (withLoops lent (replicate 64 zeroLoop)) told (withLoops left (buildOf rows names (withLoops lent (replicate 64 zeroLoop)) .lent .loops))
 
 -- "the name itself is handed back as that part of the lent names, by a call on the answer and the names .. any other answer, or a range
 -- outside the names, gives an empty part": THE CONTRACT of the name

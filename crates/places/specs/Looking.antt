@@ -5,7 +5,7 @@ use Prim.Native.Nat.{ℕ, zero, suc, _+_, max}
 use lib.ListN.{length, getD, take, drop}
 use lib.Dec.{ltb, leb, eqb}
 use Rattle.coded.specs.declared.Coded.{Coded}
-use Rattle.places.specs.Items.{about, isEnd, isShort, address, entries, nest}
+use Rattle.places.specs.Items.{Kernel, about, isEnd, isShort, address, entries, nest}
 
 -- f of the latest index before i that passes the test; the other if none does
 abbrev pub latest : {A : Type 0} → (ℕ → Bool) → (ℕ → A) → A → ℕ → A
@@ -73,9 +73,9 @@ sameFrom names (suc n) a b = eqb (getD names a 0) (getD names b 0) && sameFrom n
 abbrev pub bears : List ℕ → ℕ → ℕ → Coded → Bool
 bears names a b x = eqb (about x .label) 1 && (eqb (about x .len) b && sameFrom names b (about x .start) a)
 
--- the row of the label before n that has the name at a of length b
-abbrev pub labelled : List ℕ → (ℕ → Coded) → ℕ → ℕ → ℕ → Found
-labelled names it a b n = earliest (λ k. bears names a b (it k)) n
+-- the row of the label before i that has the name at a of length b
+abbrev pub labelled : Kernel → ℕ → ℕ → ℕ → Found
+labelled k a b i = earliest (λ q. bears (k .names) a b (k .it q)) i
 
 -- a range of the names, empty if it lies outside them
 abbrev pub part : List ℕ → ℕ → ℕ → List ℕ

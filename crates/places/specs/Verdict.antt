@@ -19,7 +19,7 @@ use Rattle.coded.specs.declared.Coded.the-variants as coded
 use Rattle.coded.specs.declared.Coded.the-variants.{Instruction, Label, Jump, LoopBegin, LoopEnd}
 use Rattle.places.specs.declared.Rooms.{Rooms}
 use Rattle.coded.specs.Coded.{ofJump, ofLoop}
-use Rattle.places.specs.Items.{sizeOf, isLabel, isJump, total, place, address, entries, nest}
+use Rattle.places.specs.Items.{Kernel, sizeOf, isLabel, isJump, total, place, address, entries, nest}
 use Rattle.places.specs.Looking.{Found, at, nothing, isFound, lastAt, opener, sharer, shortOne, labelled}
 
 -- a refusal for what is found
@@ -45,7 +45,9 @@ module _ (it : ℕ → Coded) where
   reach c i a b (at label) = formVerdict (jumpForm c (jumpOffset label i) false)
   reach c i a b nothing = Refused (UndefinedLabel a b)
 
-module _ (names : List ℕ) (it : ℕ → Coded) where
+module _ (k : Kernel) where
+  open Kernel k using (it, n)
+
   -- "In a row: 2, 4 .., compute construction .., then 27 or 28, then its own refusals as in the Rust, then room."
   abbrev pub faults : Rooms → ℕ → Coded → List Verdict
   -- 2, 4, 17, 18, 19
@@ -59,7 +61,7 @@ module _ (names : List ℕ) (it : ℕ → Coded) where
   -- 28, 11, 30
   faults r i (Label a b) =
       when (ltb 0 (nest it i)) (LabelInLoop a b)
-      ∷ when (isFound (labelled names it a b i)) (DuplicateLabel a b)
+      ∷ when (isFound (labelled k a b i)) (DuplicateLabel a b)
       ∷ when (ltb (r .labels) (total isLabel it i + 1)) (NoRoomForLabels (r .labels))
       ∷ []
   -- 27, 31, 29
@@ -82,32 +84,25 @@ module _ (names : List ℕ) (it : ℕ → Coded) where
       ∷ formVerdict (loopRow it i (opener it i) (it (opener it i)))
       ∷ []
 
-  -- the jump of row i of n, once every row is taken
-  abbrev pub reaches : ℕ → ℕ → Coded → Verdict
-  reaches n i x = ofJump (λ c a b. reach it c i a b (labelled names it a b n)) Good x
-
--- what is given to a build: the names, what each row comes to, how many rows
-pub record Kernel : Type 0 where
-  pub names : List ℕ
-  pub it : ℕ → Coded
-  pub n : ℕ
-
-abbrev pub kernel : List ℕ → (ℕ → Coded) → ℕ → Kernel
-kernel names it n = record { names = names; it = it; n = n }
+  -- the jump of row i, once every row is taken
+  abbrev pub reaches : ℕ → Coded → Verdict
+  reaches i x = ofJump (λ c a b. reach it c i a b (labelled k a b n)) Good x
 
 module _ (k : Kernel) (rooms : Rooms) where
+  open Kernel k using (it, n)
+
   abbrev pub verdictAt : ℕ → Verdict
-  verdictAt i = first (faults (k .names) (k .it) rooms i (k .it i))
+  verdictAt i = first (faults k rooms i (it i))
 
   -- "rows in turn; then 23; then jumps in item order"
   abbrev pub verdict : Verdict
   verdict =
       first
-      (firstOf verdictAt (k .n)
-      ∷ when (ltb 0 (nest (k .it) (k .n))) UnclosedLoop
-      ∷ firstOf (λ i. reaches (k .names) (k .it) (k .n) i (k .it i)) (k .n)
+      (firstOf verdictAt n
+      ∷ when (ltb 0 (nest it n)) UnclosedLoop
+      ∷ firstOf (λ i. reaches k i (it i)) n
       ∷ [])
 
   -- "the rows before the refused one", or all
   abbrev pub taken : ℕ
-  taken = passing verdictAt (k .n)
+  taken = passing verdictAt n

@@ -5,3 +5,4 @@ pub mod Totals
 pub mod Nesting
 pub mod Names
 pub mod Gathered
+pub mod Passing

@@ -15,9 +15,8 @@ use Rattle.coded.specs.declared.Coded.the-variants.{Refused}
 use Rattle.rows.specs.Rows.{rowWidth}
 use Rattle.coded.specs.Fine.{CodedFine}
 use Rattle.coded.proofs.Fine.{coded-fine, label-named, jump-named}
-use Rattle.places.specs.Items.{rowAt}
-use Rattle.places.specs.Looking.{sameFrom}
-use Rattle.places.specs.Looking.{bears}
+use Rattle.places.specs.Items.{Kernel, kernelOf, rowAt}
+use Rattle.places.specs.Looking.{sameFrom, bears}
 use Rattle.prefixes.proofs.Tests.{true-false, and-both}
 
 -- ---- bytes
@@ -78,15 +77,15 @@ module _ (names : List ℕ) (a b : ℕ) (h : a + b ≤ length names) where
   pub label-bears : (x : Coded) (c d : ℕ) → c + d ≤ length names → x ≡ Label c d → take d (drop c names) ≡ take b (drop a names) → bears names a b x ≡ true
   label-bears x c d g e s = rw e (name-test names a b c d h g s)
 
--- ---- the names of a list of rows lie in the names
-pub record Named (names : List ℕ) (it : ℕ → Coded) : Type 0 where
-  pub label : (i a b : ℕ) → it i ≡ Label a b → a + b ≤ length names
-  pub jump : (i : ℕ) (c : Condition) (a b : ℕ) → it i ≡ Jump c a b → a + b ≤ length names
+-- ---- the names of a kernel's labels and jumps lie in its names
+pub record Named (k : Kernel) : Type 0 where
+  pub label : (i a b : ℕ) → k .it i ≡ Label a b → a + b ≤ length (k .names)
+  pub jump : (i : ℕ) (c : Condition) (a b : ℕ) → k .it i ≡ Jump c a b → a + b ≤ length (k .names)
 
 pub row-fine : (rows names : List ℕ) (i : ℕ) → CodedFine (length names) (rowAt rows names i)
 row-fine rows names i = coded-fine (take rowWidth (drop (i * rowWidth) rows)) (length names)
 
-pub rows-named : (rows names : List ℕ) → Named names (rowAt rows names)
+pub rows-named : (rows names : List ℕ) → Named (kernelOf rows names)
 rows-named rows names =
     record {
       label = λ i a b e. label-named (length names) (rowAt rows names i) (row-fine rows names i) a b e;

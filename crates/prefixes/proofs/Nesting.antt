@@ -27,7 +27,7 @@ module _ (it : ℕ → Coded) where
   pub nest-closes : (e : ℕ) → about (it e) .closes ≡ 1 → nest it (suc e) ≡ nest it e - 1
   nest-closes e c = let w = one-way (it e) in omega arith
 
-  open-now : (b : ℕ) → about (it b) .opens ≡ 1 → OpenAt b (suc b)
+  pub open-now : (b : ℕ) → about (it b) .opens ≡ 1 → OpenAt b (suc b)
   open-now b e =
       record {
         opens = e;

@@ -57,7 +57,7 @@ module _ (it : ℕ → Coded) where
     pub entry : isEntry (it row) ≡ 1
     pub none-after : entries it (suc row) ≡ entries it e
 
-  no-entry : (q : ℕ) → eqb (isEntry (it q)) 1 ≡ false → isEntry (it q) ≡ 0
+  pub no-entry : (q : ℕ) → eqb (isEntry (it q)) 1 ≡ false → isEntry (it q) ≡ 0
   no-entry q e = let n = eqb-false (isEntry (it q)) 1 e in let b = entry-bit (it q) in ⊎-elim (λ z. absurd (n z)) (λ l. omega arith) (eq-or-lt-of-le b)
 
   pub last-entry : (e : ℕ) → 0 < entries it e → LastEntry e

@@ -2,3 +2,4 @@ pub mod Order
 pub mod Numbered
 pub mod Apart
 pub mod Within
+pub mod Scans

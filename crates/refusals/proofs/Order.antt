@@ -29,6 +29,10 @@ pub good-orElse : (v w : Verdict) → v ≡ Good → w ≡ Good → orElse v w �
 good-orElse v w p q = rw p q
 
 -- ---- a list
+pub last-one : (v : Verdict) → first (v ∷ []) ≡ v
+last-one Good = refl
+last-one (Refused r) = refl
+
 abbrev pub AllGood : List Verdict → Type 0
 AllGood [] = Unit {0}
 AllGood (v ∷ vs) = (v ≡ Good) × AllGood vs

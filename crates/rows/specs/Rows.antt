@@ -3,6 +3,10 @@ use Prim.Native.Nat.{ℕ, _*_, _%_}
 use mathlib.Core.List.{List, [], _∷_}
 use mathlib.Core.Bool.{Bool, cond, _&&_}
 use lib.Dec.{eqb, leb}
+use lib.ListN.{length, drop}
+use Rattle.fields.specs.Pack.{Field}
+use Rattle.words.specs.Forms.{type2a}
+use Rattle.encode.specs.Layouts.{layoutOf}
 use Rattle.bounds.specs.Tables.{lookup, at}
 use Rattle.bounds.specs.Bounds.{isCompute}
 use Rattle.bounds.specs.Checks.{checkOf}
@@ -48,13 +52,17 @@ multiOf row =
       «alu_y» = reg (at row 8);
     }
 
--- "1 single, then a kind .. and its three field places", 17 where the kind is no compute
-abbrev pub singleOf : List ℕ → Made
-singleOf row = cond (isCompute (at row 2)) (madeSingle (instructionOf (at row 2) (at row 3) (at row 4) (at row 5))) (made.Refused NotACompute)
+-- "1 single, then a kind .. and its three field places": the 23 bits of that instruction's compute word, its fields after 2a's own
+abbrev pub singleFields : ℕ → ℕ → ℕ → ℕ → List Field
+singleFields kind a b c = drop (length (type2a [])) (layoutOf (instructionOf kind a b c) .fields)
+
+-- `Compute::single`: these, and the destination, the first field, but none of IntegerCompareUnsigned (27); 17 where the kind is no compute
+abbrev pub singleOf : ℕ → ℕ → ℕ → ℕ → Made
+singleOf kind a b c = cond (isCompute kind) (madeSingle (singleFields kind a b c) (cond (eqb kind 27) 16 (reg a .0))) (made.Refused NotACompute)
 
 -- the compute of a row that has one
 unfoldable pub computeOf : List ℕ → Made
-computeOf row = lookup (at row 1) ((1, singleOf row) ∷ (2, madeMulti (multiOf row)) ∷ []) (madeMulti (multiOf row))
+computeOf row = lookup (at row 1) ((1, singleOf (at row 2) (at row 3) (at row 4) (at row 5)) ∷ (2, madeMulti (multiOf row)) ∷ []) (madeMulti (multiOf row))
 
 -- "0 none", or the compute beside a move
 abbrev pub beside : Made → Beside

@@ -5,6 +5,7 @@ ghost use lib.ListN.{length};
 ghost use Rattle.rows.specs.Fields.{conditionOf, directionOf, updateOf, aluOpOf, modeOf, countOf, scalarOf, transferOf, otherOf, instructionOf};
 ghost use Rattle.rows.specs.Rows.{wellFormed, multiOf, singleOf, computeOf, besideOf, dataAccessOf, memoryAccessOf, computeItem, dualItem, memoryItem, itemOf, readOf};
 use computes::Made;
+use computes::single;
 use items::AluOp;
 use items::Condition;
 use items::DataAccess;
@@ -219,29 +220,27 @@ fn other_of(kind: u32, a: u32, b: u32, c: u32) -> VisaInstruction
     }
 }
 
-// The instruction of a kind that holds no compute, with its fields.
-fn instruction_of(kind: u32, a: u32, b: u32, c: u32) -> VisaInstruction
-    ensures { λ r. ⌜ r ≡ instructionOf kind a b c ⌝ }
+// The single compute of a kind with its fields, or refusal 17.
+fn single_of(kind: u32, a: u32, b: u32, c: u32) -> Made
+    ensures { λ r. ⌜ r ≡ singleOf kind a b c ⌝ }
 {
-    if kind <= 12 {
-        VisaInstruction::Scalar(scalar_of(kind, a, b, c))
-    } else if kind <= 24 {
-        transfer_of(kind, a, b, c)
-    } else {
-        other_of(kind, a, b, c)
-    }
-}
-
-// The single compute of a row, or refusal 17.
-fn single_of(row: &[u32]) -> Made
-    requires { ⌜ length (now row) ≡ 17 ⌝ }
-    ensures { λ r. ⌜ r ≡ singleOf (now (row .entry)) ⌝ }
-{
-    let kind = row[2];
-    if bounds::is_compute(kind) {
-        computes::single(instruction_of(kind, row[3], row[4], row[5]))
-    } else {
-        Made::Refused(Refusal::NotACompute)
+    let a = (a % 256) as u8;
+    let b = (b % 256) as u8;
+    let c = (c % 256) as u8;
+    match kind {
+        0 => single(0, 0x81, a, b, c, a),
+        1 => single(0, 0x82, a, b, c, a),
+        2 => single(1, 0x30, a, b, c, a),
+        3 => single(0, 0xe1, a, b, c, a),
+        4 => single(0, 0xe2, a, b, c, a),
+        5 => single(0, 0xa2, a, b, 0, a),
+        6 => single(0, 0xb0, a, b, 0, a),
+        7 => single(0, 0x02, a, b, c, a),
+        8 => single(0, 0xa1, a, b, 0, a),
+        25 => single(0, 0x2a, a, b, 0, a),
+        26 => single(0, 0x21, a, b, 0, a),
+        27 => single(0, 0x0b, 0, a, b, 16),
+        _ => Made::Refused(Refusal::NotACompute),
     }
 }
 
@@ -268,7 +267,7 @@ fn compute_of(row: &[u32]) -> Made
     ensures { λ r. ⌜ r ≡ computeOf (now (row .entry)) ⌝ }
 {
     match row[1] {
-        1 => single_of(row),
+        1 => single_of(row[2], row[3], row[4], row[5]),
         _ => computes::float_mul_alu(multi_of(row)),
     }
 }

@@ -14,9 +14,9 @@ use Rattle.refusals.specs.declared.Verdict.the-variants.{Good}
 use Rattle.refusals.specs.Numbers.{counted, answerOf, answered}
 use Rattle.refusals.proofs.Numbered.{answers-zero}
 use Rattle.rows.specs.Rows.{wellFormed}
-use Rattle.places.specs.Items.{place, rowAt, rowsIn}
+use Rattle.places.specs.Items.{rowAt, rowsIn, kernelOf, place}
 use Rattle.places.specs.Verdict.{verdict}
-use Rattle.places.specs.Left.{Lent, roomsIn, kernelOf, Outcome, outcome, built, buildOf, Builds}
+use Rattle.places.specs.Left.{Lent, roomsIn, Outcome, outcome, built, buildOf, Builds}
 use Rattle.prefixes.proofs.Names.{rows-named}
 use Rattle.rules.specs.Accepted.{ValidRows, AcceptedParcels}
 use Rattle.rules.proofs.Exactly.{accepted-exactly-when-valid}
@@ -57,7 +57,7 @@ module _ (rows names : List ℕ) (lent : Lent) (t : Told) (x : Lent) (contract :
   -- DEMAND 3: a well-formed list is accepted exactly when the rules hold
   pub build-accepts-exactly-when-valid : wellFormed (length rows) ≡ true → (t .number ≡ 0) ↔ ValidRows rows names lent
   build-accepts-exactly-when-valid w =
-      let v = accepted-exactly-when-valid names (rowAt rows names) (rowsIn rows) lent (rows-named rows names) in
+      let v = accepted-exactly-when-valid (kernelOf rows names) lent (rows-named rows names) in
       let z = zero-good w in
       ((λ e. v .0 (z .0 e)), (λ r. z .1 (v .1 r)))
 
@@ -69,8 +69,8 @@ module _ (rows names : List ℕ) (lent : Lent) (t : Told) (x : Lent) (contract :
     pub accepted-count : t ≡ counted count
     accepted-count = told-is (accepted-well-formed e) ∙ ap (λ (v : Verdict). answered (answerOf v count)) accepted-good
 
-    pub build-accepted-parcels : AcceptedParcels names (rowAt rows names) (rowsIn rows) (x .parcels) (lent .parcels)
+    pub build-accepted-parcels : AcceptedParcels (kernelOf rows names) (x .parcels) (lent .parcels)
     build-accepted-parcels =
-        subst (λ (ps : List ℕ). AcceptedParcels names (rowAt rows names) (rowsIn rows) ps (lent .parcels))
+        subst (λ (ps : List ℕ). AcceptedParcels (kernelOf rows names) ps (lent .parcels))
         (sym (contract .parcels ∙ ap (λ (o : Outcome). o .lent .parcels) (built-is (accepted-well-formed e))))
-        (accepted-parcels names (rowAt rows names) (rowsIn rows) lent (rows-named rows names) accepted-good)
+        (accepted-parcels (kernelOf rows names) lent (rows-named rows names) accepted-good)

@@ -4,7 +4,6 @@ use native.Mathlib.Omega.{arith}
 use mathlib.Core.Path.{_≡_, sym, ap, _∙_, subst}
 use mathlib.Core.Logic.{⊎-elim}
 use mathlib.Core.Bool.{true, false, _&&_}
-use mathlib.Core.List.{List}
 use lib.Dec.{ltb, leb, eqb}
 use borrow.Author.Tests.{ltb-true, leb-true, le-ltb, ne-eqb, eqb-true}
 use Rattle.items.specs.Kinds.{isBranch}
@@ -16,7 +15,7 @@ use Rattle.encode.specs.Encoding.{formVerdict}
 use Rattle.encode.proofs.Reach.{loop-reach}
 use Rattle.coded.specs.declared.Coded.{Coded}
 use Rattle.places.specs.declared.Rooms.{Rooms}
-use Rattle.places.specs.Items.{about, size, isEntry, isEnd, isShort, address, entries, nest}
+use Rattle.places.specs.Items.{Kernel, about, size, isEntry, isEnd, isShort, address, entries, nest}
 use Rattle.places.specs.Looking.{lastAt, opener}
 use Rattle.places.specs.Verdict.{faults, loopRow}
 use Rattle.prefixes.proofs.Tests.{true-false, and-both, order}
@@ -28,13 +27,15 @@ use Rattle.prefixes.proofs.Nesting.{innermost, not-before}
 use Rattle.rules.specs.Rules.{Pair, Last, Valid}
 use Rattle.rules.proofs.Pairs.{pair-from, pair-to}
 
-module _ (names : List ℕ) (it : ℕ → Coded) (n : ℕ) (r : Rooms) (valid : Valid names it n r) where
+module _ (k : Kernel) (r : Rooms) (valid : Valid k r) where
+  open Kernel k using (it, n)
+
   -- ---- outside of loops
   -- a pair around row i
   record Inside (i : ℕ) : Type 0 where
     start : ℕ
     end : ℕ
-    pair : Pair it n start end
+    pair : Pair k start end
     after : start < i
     before : i < end
 
@@ -42,7 +43,7 @@ module _ (names : List ℕ) (it : ℕ → Coded) (n : ℕ) (r : Rooms) (valid : 
   inside i h d c =
       let o = innermost it i d .open-at in
       let b = o .before in
-      let x = pair-from it n (opener it i) (omega (arith, valid .rule3 .closed)) (omega arith) (o .opens) in
+      let x = pair-from k (opener it i) (omega (arith, valid .rule3 .closed)) (omega arith) (o .opens) in
       let p = x .pair in
       let q : about (it (x .end)) .closes ≡ 1 = ap (λ (y : Coded). about y .closes) (p .closes) in
       record {
@@ -53,7 +54,7 @@ module _ (names : List ℕ) (it : ℕ → Coded) (n : ℕ) (r : Rooms) (valid : 
         before = ⊎-elim (λ l. l) (λ l. let w = not-before it o q (p .level) (p .order) in let e : x .end ≡ i = omega arith in let z : about (it i) .closes ≡ 1 = rw e at q in absurd (omega arith)) (order i (x .end));
       }
 
-  pub outside : (i : ℕ) → i < n → about (it i) .closes ≡ 0 → ((b e : ℕ) → Pair it n b e → b < i → i < e → ⊥) → ltb 0 (nest it i) ≡ false
+  pub outside : (i : ℕ) → i < n → about (it i) .closes ≡ 0 → ((b e : ℕ) → Pair k b e → b < i → i < e → ⊥) → ltb 0 (nest it i) ≡ false
   outside i h c f =
       ⊎-elim (λ d. let x = inside i h d c in absurd (f (x .start) (x .end) (x .pair) (x .after) (x .before))) (λ d. le-ltb 0 (nest it i) d) (order 0 (nest it i))
 
@@ -71,8 +72,8 @@ module _ (names : List ℕ) (it : ℕ → Coded) (n : ℕ) (r : Rooms) (valid : 
     abbrev b : ℕ
     b = opener it i
 
-    pair : Pair it n b i
-    pair = pair-to it n i inner h (ap (λ (y : Coded). about y .closes) e)
+    pair : Pair k b i
+    pair = pair-to k i inner h (ap (λ (y : Coded). about y .closes) e)
 
     one : isEntry (it b) ≡ 1
     one = ap isEntry (pair .opens)
@@ -84,16 +85,16 @@ module _ (names : List ℕ) (it : ℕ → Coded) (n : ℕ) (r : Rooms) (valid : 
     last : LastEntry it i
     last = last-entry it i (let w = past in omega arith)
 
-    last-of : Last it n (last .row) i
+    last-of : Last k (last .row) i
     last-of = record { before = last .before; entry = last .entry; none-after = last .none-after }
 
     not-empty : entries it i ≡ entries it b + 1 → ⊥
     not-empty z =
-        let k = valid .rule3 .some b i pair in
+        let q = valid .rule3 .some b i pair in
         let y = one in
-        let x = k .entry in
-        let u = total-up isEntry it (suc b) (k .row) (omega (arith, k .after)) in
-        let w = total-up isEntry it (suc (k .row)) i (k .before) in
+        let x = q .entry in
+        let u = total-up isEntry it (suc b) (q .row) (omega (arith, q .after)) in
+        let w = total-up isEntry it (suc (q .row)) i (q .before) in
         omega arith
 
     -- an end with as many instructions before it ends on the same one
@@ -102,36 +103,36 @@ module _ (names : List ℕ) (it : ℕ → Coded) (n : ℕ) (r : Rooms) (valid : 
         let g = and-both _ _ t in
         let c = eqb-true (about (it f) .closes) 1 (g .0) in
         let s = eqb-true (entries it f) (entries it i) (g .1) in
-        let p = pair-to it n f (valid .rule3 .matched f (omega arith) (closes-end (it f) c)) (omega arith) c in
-        let k = last .row in
+        let p = pair-to k f (valid .rule3 .matched f (omega arith) (closes-end (it f) c)) (omega arith) c in
+        let q = last .row in
         let x = last .entry in
         let y = last .none-after in
-        let u : k < f = ⊎-elim (λ u. u) (λ u. absurd (let w = total-up isEntry it f k u in omega arith)) (order k f) in
-        let z = valid .rule4 .apart (opener it f) f b i k p pair (record { before = u; entry = x; none-after = y ∙ sym s }) last-of in
+        let u : q < f = ⊎-elim (λ u. u) (λ u. absurd (let w = total-up isEntry it f q u in omega arith)) (order q f) in
+        let z = valid .rule4 .apart (opener it f) f b i q p pair (record { before = u; entry = x; none-after = y ∙ sym s }) last-of in
         omega arith
 
-    full-width : (k : ℕ) → k < i → (isShort (it k) && (ltb b k && leb (entries it i) (entries it k + 11))) ≡ true → ⊥
-    full-width k l t =
+    full-width : (q : ℕ) → q < i → (isShort (it q) && (ltb b q && leb (entries it i) (entries it q + 11))) ≡ true → ⊥
+    full-width q l t =
         let g = and-both _ _ t in
         let u = and-both _ _ (g .1) in
-        let s = short-entry (it k) (eqb-true _ _ (g .0)) in
-        let w : entries it i ≤ entries it k + 11 = leb-true _ _ (u .1) in
-        s .1 (valid .rule4 .tail b i k pair (ltb-true _ _ (u .0)) l (s .0) (omega arith))
+        let s = short-entry (it q) (eqb-true _ _ (g .0)) in
+        let w : entries it i ≤ entries it q + 11 = leb-true _ _ (u .1) in
+        s .1 (valid .rule4 .tail b i q pair (ltb-true _ _ (u .0)) l (s .0) (omega arith))
 
     form : formVerdict (loopRow it i b (it b)) ≡ Good
     form =
         let p = pair in
-        let k = last .row in
+        let q = last .row in
         let y = one in
-        let w = last-is it k i (last .before) (last .entry) (last .none-after) in
-        let g = valid .rule5 .near b i k p last-of in
-        let l : b ≤ k = ⊎-elim (λ u. absurd (let x = total-up isEntry it (suc k) b u in let z = past in let s = last .none-after in omega arith)) (λ u. u) (order k b) in
-        let x = total-up size it b k l in
+        let w = last-is it q i (last .before) (last .entry) (last .none-after) in
+        let g = valid .rule5 .near b i q p last-of in
+        let l : b ≤ q = ⊎-elim (λ u. absurd (let x = total-up isEntry it (suc q) b u in let z = past in let s = last .none-after in omega arith)) (λ u. u) (order q b) in
+        let x = total-up size it b q l in
         subst (λ (y : Coded). formVerdict (loopRow it i b y) ≡ Good) (sym (p .opens))
         (loop-reach (p .count) (p .mode) (lastAt it i) (address it b) .1
         (omega arith, omega arith, λ z. let d = valid .rule5 .counted b 0 (p .mode) (omega (arith, p .order)) (p .opens ∙ ap (λ (c : LoopCount). LoopBegin c (p .mode)) z) in omega arith))
 
-    pub end-passes : AllGood (faults names it r i LoopEnd)
+    pub end-passes : AllGood (faults k r i LoopEnd)
     end-passes = (
       good-when _ _ (ne-eqb _ _ (λ (z : nest it i ≡ 0). let w = inner in omega arith)),
       (

@@ -14,8 +14,8 @@ use Rattle.refusals.specs.Order.{when, firstOf}
 use Rattle.coded.specs.declared.Coded.{Coded}
 use Rattle.coded.specs.declared.Coded.the-variants.{Refused}
 use Rattle.places.specs.Left.{Lent, roomsIn}
-use Rattle.places.specs.Verdict.{kernel, faults, reaches, verdictAt, verdict}
-use Rattle.places.specs.Items.{about, nest, size, isLabel, isJump}
+use Rattle.places.specs.Verdict.{faults, reaches, verdictAt, verdict}
+use Rattle.places.specs.Items.{Kernel, about, nest, size, isLabel, isJump}
 use Rattle.places.specs.declared.Rooms.{Rooms}
 use Rattle.prefixes.proofs.Names.{Named}
 use Rattle.prefixes.proofs.Nesting.{nest-opens}
@@ -34,29 +34,31 @@ opens x = about x .opens
 abbrev closes : Coded → ℕ
 closes x = about x .closes
 
-module _ (names : List ℕ) (it : ℕ → Coded) (n : ℕ) (r : Rooms) (named : Named names it) where
-  valid-if : RowsPass names it n r → nest it n ≡ 0 → JumpsReach names it n → Valid names it n r
+module _ (k : Kernel) (r : Rooms) (named : Named k) where
+  open Kernel k using (it, n)
+
+  valid-if : RowsPass k r → nest it n ≡ 0 → JumpsReach k → Valid k r
   valid-if rows closed jumps =
       record {
-        rule1 = rule1 names it n r rows;
-        rule2 = rule2 names it n named r rows jumps;
-        rule3 = rule3 names it n r rows closed;
-        rule4 = rule4 names it n r rows;
-        rule5 = rule5 names it n r rows closed;
-        rule6 = rule6 names it n r rows;
+        rule1 = rule1 k r rows;
+        rule2 = rule2 k named r rows jumps;
+        rule3 = rule3 k r rows closed;
+        rule4 = rule4 k r rows;
+        rule5 = rule5 k r rows closed;
+        rule6 = rule6 k r rows;
       }
 
-  module _ (valid : Valid names it n r) where
-    no-refusal : (i : ℕ) → i < n → (x : Coded) → it i ≡ x → AllGood (faults names it r i x)
+  module _ (valid : Valid k r) where
+    no-refusal : (i : ℕ) → i < n → (x : Coded) → it i ≡ x → AllGood (faults k r i x)
     no-refusal i h (Instruction v) e =
         let u = room it n size i (r .parcels) (size (Instruction v)) h (omega (arith, valid .rule6 .parcels)) (ap size e) in
-        (good-when _ _ (not-so _ (no-branch names it n r valid i v h e)), (valid .rule1 .encodes i (omega arith) v e, (good-when _ _ u, tt)))
+        (good-when _ _ (not-so _ (no-branch k r valid i v h e)), (valid .rule1 .encodes i (omega arith) v e, (good-when _ _ u, tt)))
     no-refusal i h (Label a b) e =
-        let o = outside names it n r valid i h (ap closes e) (λ s t p u v. valid .rule3 .no-label s t i a b p u v e) in
+        let o = outside k r valid i h (ap closes e) (λ s t p u v. valid .rule3 .no-label s t i a b p u v e) in
         let u = room it n isLabel i (r .labels) 1 h (valid .rule6 .labels) (ap isLabel e) in
-        (good-when _ _ o, (good-when _ _ (unique names it n named (valid .rule2) i a b h e), (good-when _ _ u, tt)))
+        (good-when _ _ o, (good-when _ _ (unique k named (valid .rule2) i a b h e), (good-when _ _ u, tt)))
     no-refusal i h (Jump c a b) e =
-        let o = outside names it n r valid i h (ap closes e) (λ s t p u v. valid .rule3 .no-jump s t i c a b p u v e) in
+        let o = outside k r valid i h (ap closes e) (λ s t p u v. valid .rule3 .no-jump s t i c a b p u v e) in
         let u = room it n isJump i (r .jumps) 1 h (valid .rule6 .jumps) (ap isJump e) in
         let w = room it n size i (r .parcels) 3 h (omega (arith, valid .rule6 .parcels)) (ap size e) in
         (good-when _ _ o, (good-when _ _ u, (good-when _ _ w, tt)))
@@ -64,51 +66,47 @@ module _ (names : List ℕ) (it : ℕ → Coded) (n : ℕ) (r : Rooms) (named : 
         let d = le-ltb (r .loops) (nest it i + 1) (subst (λ (x : ℕ). x ≤ r .loops) (nest-opens it i (ap opens e)) (valid .rule6 .loops (suc i) h)) in
         let w = room it n size i (r .parcels) 3 h (omega (arith, valid .rule6 .parcels)) (ap size e) in
         (good-when _ _ d, (good-when _ _ w, tt))
-    no-refusal i h LoopEnd e = end-passes names it n r valid i h e
+    no-refusal i h LoopEnd e = end-passes k r valid i h e
     no-refusal i h (Refused w) e = absurd (valid .rule1 .constructible i h w e)
 
-    rows-pass : RowsPass names it n r
-    rows-pass i h = good-first (faults names it r i (it i)) (no-refusal i h (it i) refl)
+    rows-pass : RowsPass k r
+    rows-pass i h = good-first (faults k r i (it i)) (no-refusal i h (it i) refl)
 
-    reaches-as : (i : ℕ) → i < n → (x : Coded) → it i ≡ x → reaches names it n i x ≡ Good
+    reaches-as : (i : ℕ) → i < n → (x : Coded) → it i ≡ x → reaches k i x ≡ Good
     reaches-as i h (Instruction v) e = refl
     reaches-as i h (Label a b) e = refl
-    reaches-as i h (Jump c a b) e = jump-reaches names it n named (valid .rule2) i h c a b e
+    reaches-as i h (Jump c a b) e = jump-reaches k named (valid .rule2) i h c a b e
     reaches-as i h (LoopBegin c m) e = refl
     reaches-as i h LoopEnd e = refl
     reaches-as i h (Refused w) e = refl
 
-    jumps-reach : JumpsReach names it n
+    jumps-reach : JumpsReach k
     jumps-reach i h = reaches-as i h (it i) refl
 
--- the parts of a verdict
-abbrev pub parts : List ℕ → (ℕ → Coded) → ℕ → Lent → List Verdict
-parts names it n lent =
-    firstOf (verdictAt (kernel names it n) (roomsIn lent)) n
-    ∷ when (ltb 0 (nest it n)) UnclosedLoop
-    ∷ firstOf (λ i. reaches names it n i (it i)) n
-    ∷ []
+-- ---- the verdict, and its parts
+module _ (k : Kernel) (lent : Lent) where
+  open Kernel k using (it, n)
 
-pub verdict-good : (names : List ℕ) (it : ℕ → Coded) (n : ℕ) (lent : Lent) → verdict (kernel names it n) (roomsIn lent) ≡ Good
-    ↔ (RowsPass names it n (roomsIn lent) × (nest it n ≡ 0) × JumpsReach names it n)
-verdict-good names it n lent = (
-  (λ g.
-      let x = first-good (parts names it n lent) g in (
-        first-all (verdictAt (kernel names it n) (roomsIn lent)) n (x .0),
-        (let w = ltb-false 0 (nest it n) (when-good _ _ (x .1 .0)) in omega arith),
-        first-all (λ i. reaches names it n i (it i)) n (x .1 .1 .0),
-      )),
-  (λ x.
-      good-first (parts names it n lent) (
-        all-first (verdictAt (kernel names it n) (roomsIn lent)) n (x .0),
-        (good-when _ _ (le-ltb 0 (nest it n) (let w = x .1 in omega arith)), (all-first (λ i. reaches names it n i (it i)) n (x .2), tt)),
-      )),
-)
+  abbrev pub parts : List Verdict
+  parts = firstOf (verdictAt k (roomsIn lent)) n ∷ when (ltb 0 (nest it n)) UnclosedLoop ∷ firstOf (λ i. reaches k i (it i)) n ∷ []
 
-pub accepted-exactly-when-valid : (names : List ℕ) (it : ℕ → Coded) (n : ℕ) (lent : Lent) → Named names it
-    → verdict (kernel names it n) (roomsIn lent) ≡ Good ↔ Valid names it n (roomsIn lent)
-accepted-exactly-when-valid names it n lent named =
-    let v = verdict-good names it n lent in (
-      (λ g. let x = v .0 g in valid-if names it n _ named (x .0) (x .1) (x .2)),
-      (λ x. v .1 (rows-pass names it n _ named x, omega (arith, x .rule3 .closed), jumps-reach names it n _ named x)),
-    )
+  pub verdict-good : verdict k (roomsIn lent) ≡ Good ↔ (RowsPass k (roomsIn lent) × (nest it n ≡ 0) × JumpsReach k)
+  verdict-good = (
+    (λ g.
+        let x = first-good parts g in (
+          first-all (verdictAt k (roomsIn lent)) n (x .0),
+          (let w = ltb-false 0 (nest it n) (when-good _ _ (x .1 .0)) in omega arith),
+          first-all (λ i. reaches k i (it i)) n (x .1 .1 .0),
+        )),
+    (λ x.
+        good-first parts (
+          all-first (verdictAt k (roomsIn lent)) n (x .0),
+          (good-when _ _ (le-ltb 0 (nest it n) (let w = x .1 in omega arith)), (all-first (λ i. reaches k i (it i)) n (x .2), tt)),
+        )),
+  )
+
+  pub accepted-exactly-when-valid : Named k → verdict k (roomsIn lent) ≡ Good ↔ Valid k (roomsIn lent)
+  accepted-exactly-when-valid named = (
+    (λ g. let x = verdict-good .0 g in valid-if k _ named (x .0) (x .1) (x .2)),
+    (λ x. verdict-good .1 (rows-pass k _ named x, omega (arith, x .rule3 .closed), jumps-reach k _ named x)),
+  )

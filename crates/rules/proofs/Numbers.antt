@@ -14,8 +14,7 @@ use Rattle.refusals.specs.Numbers.{toldOf, checked, answerOf, answered, among, 
 use Rattle.refusals.proofs.Numbered.{numbered}
 use Rattle.refusals.proofs.Within.{Tells, tells-wider, part, none, other}
 use Rattle.encode.proofs.Numbers.{loopNumbers}
-use Rattle.coded.specs.declared.Coded.{Coded}
-use Rattle.places.specs.Items.{address, rowAt, rowsIn}
+use Rattle.places.specs.Items.{Kernel, kernelOf, address}
 use Rattle.places.specs.Looking.{Found, at, nothing, shortOne}
 use Rattle.places.specs.Verdict.{whenFound}
 use Rattle.places.specs.Left.{Lent, Builds}
@@ -23,11 +22,11 @@ use Rattle.prefixes.proofs.Names.{Named, rows-named}
 use Rattle.rules.specs.Tellable.{Tellable}
 use Rattle.rules.proofs.Walk.{Holds, build-holds}
 
-module _ (names : List ℕ) where
+module _ (k : Kernel) where
   -- a number of the build's table, and a range in the names
   pub record Sound (v : Verdict) : Type 0 where
     pub tells : Tells building v
-    pub within : checked v .start + checked v .length ≤ length names
+    pub within : checked v .start + checked v .length ≤ length (k .names)
 
   good : Sound Good
   good = record { tells = refl; within = omega arith }
@@ -35,7 +34,7 @@ module _ (names : List ℕ) where
   unnamed : (r : Refusal) → Tells building (Refused r) → among naming (toldOf r) ≡ false → Sound (Refused r)
   unnamed r h n = let u = numbered r .unnamed n in record { tells = h; within = omega (arith, u .0, u .1) }
 
-  named : (r : Refusal) → Tells building (Refused r) → toldOf r .start + toldOf r .length ≤ length names → Sound (Refused r)
+  named : (r : Refusal) → Tells building (Refused r) → toldOf r .start + toldOf r .length ≤ length (k .names) → Sound (Refused r)
   named r h w = record { tells = h; within = w }
 
   -- of a shorter list without names
@@ -43,13 +42,13 @@ module _ (names : List ℕ) where
   among-these ns p n Good h = good
   among-these ns p n (Refused r) h = unnamed r (tells-wider ns building (Refused r) p h) (other (0 ∷ ns) naming (toldOf r) n h)
 
-  tail-found : (f : Found) (address : ℕ → ℕ) → Sound (whenFound f (λ k. LoopTailNotFullWidth (address k)))
+  tail-found : (f : Found) (address : ℕ → ℕ) → Sound (whenFound f (λ q. LoopTailNotFullWidth (address q)))
   tail-found (at row) address = unnamed (LoopTailNotFullWidth (address row)) refl refl
   tail-found nothing address = good
 
   -- each refusal
-  holds : (it : ℕ → Coded) (n : ℕ) → Named names it → Holds it n Sound
-  holds it n fine =
+  holds : Named k → Holds k Sound
+  holds fine =
       record {
         good = good;
         reads = among-these reading refl refl;
@@ -61,7 +60,7 @@ module _ (names : List ℕ) where
         unmatched = unnamed UnmatchedLoopEnd refl refl;
         empty = unnamed EmptyLoop refl refl;
         shared = unnamed SharedLoopEnd refl refl;
-        tail = λ e h z d. tail-found (shortOne it e) (λ k. address it k);
+        tail = λ e h z d. tail-found (shortOne (k .it) e) (λ q. address (k .it) q);
         unclosed = unnamed UnclosedLoop refl refl;
         parcels-room = λ m. unnamed (NoRoomForParcels m) refl refl;
         labels-room = λ m. unnamed (NoRoomForLabels m) refl refl;
@@ -70,12 +69,12 @@ module _ (names : List ℕ) where
       }
 
 -- ---- an answer
-answer-sound : (names : List ℕ) (v : Verdict) (n : ℕ) → Sound names v → Tellable names (answered (answerOf v n))
-answer-sound names Good n s = record { number = refl; within = omega arith; unnamed = λ f. (refl, refl) }
-answer-sound names (Refused r) n s = record { number = s .tells; within = s .within; unnamed = numbered r .unnamed }
+answer-sound : (k : Kernel) (v : Verdict) (count : ℕ) → Sound k v → Tellable (k .names) (answered (answerOf v count))
+answer-sound k Good count s = record { number = refl; within = omega arith; unnamed = λ f. (refl, refl) }
+answer-sound k (Refused r) count s = record { number = s .tells; within = s .within; unnamed = numbered r .unnamed }
 
 -- THE THEOREM: what a build tells is 0 or a number of its table, and the range of a name lies in the names; any other answer has range 0, 0
 pub build-tells : (rows names : List ℕ) (lent : Lent) (t : Told) (x : Lent) → Builds rows names lent t x → Tellable names t
 build-tells rows names lent t x b =
-    build-holds rows names lent (Sound names) (holds names (rowAt rows names) (rowsIn rows) (rows-named rows names)) (unnamed names RowSlice refl refl)
-    (Tellable names) (answer-sound names) t x b
+    let k = kernelOf rows names in
+    build-holds rows names lent (Sound k) (holds k (rows-named rows names)) (unnamed k RowSlice refl refl) (Tellable names) (answer-sound k) t x b

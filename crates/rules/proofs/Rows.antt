@@ -1,30 +1,30 @@
 -- Where every row passes, none of its refusals is met.
 use Prim.Native.Nat.{ℕ, _<_}
 use native.Mathlib.Omega.{arith}
-use mathlib.Core.Path.{_≡_, subst}
-use mathlib.Core.List.{List}
+use mathlib.Core.Path.{_≡_}
 use Rattle.coded.specs.declared.Coded.the-variants.{Instruction}
 use Rattle.refusals.specs.declared.Verdict.the-variants.{Good}
 use Rattle.coded.specs.declared.Coded.{Coded}
 use Rattle.coded.specs.declared.Coded.the-variants.{Refused}
-use Rattle.refusals.specs.Order.{first}
-use Rattle.places.specs.Verdict.{faults, reaches}
+use Rattle.places.specs.Items.{Kernel}
+use Rattle.places.specs.Verdict.{faults, reaches, verdictAt}
 use Rattle.places.specs.declared.Rooms.{Rooms}
-use Rattle.refusals.proofs.Order.{AllGood, refused-good, first-good}
+use Rattle.refusals.proofs.Order.{AllGood, refused-good}
+use Rattle.prefixes.proofs.Passing as passing
 use Rattle.rules.specs.Rules.{Rule1}
 
 -- every row passes, and every jump reaches its label
-abbrev pub RowsPass : List ℕ → (ℕ → Coded) → ℕ → Rooms → Type 0
-RowsPass names it n r = (i : ℕ) → i < n → first (faults names it r i (it i)) ≡ Good
+abbrev pub RowsPass : Kernel → Rooms → Type 0
+RowsPass k r = (i : ℕ) → i < k .n → verdictAt k r i ≡ Good
 
-abbrev pub JumpsReach : List ℕ → (ℕ → Coded) → ℕ → Type 0
-JumpsReach names it n = (i : ℕ) → i < n → reaches names it n i (it i) ≡ Good
+abbrev pub JumpsReach : Kernel → Type 0
+JumpsReach k = (i : ℕ) → i < k .n → reaches k i (k .it i) ≡ Good
 
-module _ (names : List ℕ) (it : ℕ → Coded) (n : ℕ) (r : Rooms) (rows : RowsPass names it n r) where
-  pub passed : (i : ℕ) → i < n → (x : Coded) → it i ≡ x → AllGood (faults names it r i x)
-  passed i h x e = first-good (faults names it r i x) (subst (λ (y : Coded). first (faults names it r i y) ≡ Good) e (rows i h))
+module _ (k : Kernel) (r : Rooms) (rows : RowsPass k r) where
+  pub passed : (i : ℕ) → i < k .n → (x : Coded) → k .it i ≡ x → AllGood (faults k r i x)
+  passed i h x e = passing.passed k r i (rows i h) x e
 
-  pub rule1 : Rule1 it n
+  pub rule1 : Rule1 k
   rule1 =
       record {
         constructible = λ i h w e. refused-good w (passed i h (Refused w) e .0);

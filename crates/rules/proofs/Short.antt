@@ -18,7 +18,7 @@ use Rattle.refusals.proofs.Within.{Tells, none, other}
 use Rattle.encode.proofs.Numbers.{loopNumbers}
 use Rattle.coded.specs.declared.Coded.{Coded}
 use Rattle.coded.specs.declared.Coded.the-variants.{LoopEnd}
-use Rattle.places.specs.Items.{about, isEntry, isShort, address, entries, nest, rowAt, rowsIn}
+use Rattle.places.specs.Items.{Kernel, kernelOf, about, isEntry, isShort, address, entries, nest}
 use Rattle.places.specs.Looking.{Found, opener, inTail, shortOne}
 use Rattle.places.specs.Verdict.{whenFound}
 use Rattle.places.specs.Left.{Lent, Builds}
@@ -30,10 +30,12 @@ use Rattle.rules.specs.Short.{LatestShort}
 use Rattle.rules.proofs.Pairs.{pair-to}
 use Rattle.rules.proofs.Walk.{Holds, build-holds}
 
-module _ (it : ℕ → Coded) (n : ℕ) where
+module _ (k : Kernel) where
+  open Kernel k using (it, n)
+
   -- what is promised of what is told, and of a verdict
   abbrev Detail : Told → Type 0
-  Detail t = t .number ≡ 26 → LatestShort it n (t .first)
+  Detail t = t .number ≡ 26 → LatestShort k (t .first)
 
   record Promised (v : Verdict) : Type 0 where
     detail : Detail (checked v)
@@ -53,7 +55,7 @@ module _ (it : ℕ → Coded) (n : ℕ) where
 
   -- ---- the loop end e, which closes a loop
   module _ (e : ℕ) (closes : it e ≡ LoopEnd) (h : e < n) (d : 0 < nest it e) where
-    latest-short : (m : LatestRow (λ k. isShort (it k) && inTail it e k) e) → LatestShort it n (pos (address it (m .row)))
+    latest-short : (m : LatestRow (λ q. isShort (it q) && inTail it e q) e) → LatestShort k (pos (address it (m .row)))
     latest-short m =
         let t = and-both _ _ (m .holds) in
         let u = and-both _ _ (t .1) in
@@ -63,34 +65,34 @@ module _ (it : ℕ → Coded) (n : ℕ) where
         record {
           start = opener it e;
           end = e;
-          pair = pair-to it n e d h (ap (λ (y : Coded). about y .closes) closes);
+          pair = pair-to k e d h (ap (λ (y : Coded). about y .closes) closes);
           row = m .row;
           after = a;
           before = m .before;
           entry = x .0;
           in-tail = l;
           short = x .1;
-          latest = λ k p q o.
-              wide-entry (it k) o
+          latest = λ q p s o.
+              wide-entry (it q) o
               (λ z.
-              let g = total-up isEntry it (m .row) k (omega arith) in
+              let g = total-up isEntry it (m .row) q (omega arith) in
               true-false
-              (let w : (isShort (it k) && (ltb (opener it e) k && leb (entries it e) (entries it k + 11))) ≡ true =
-              rw (z, lt-ltb (opener it e) k (omega arith), le-leb (entries it e) (entries it k + 11) (omega arith)) refl in w)
-              (m .after k (omega arith) (omega arith)));
+              (let w : (isShort (it q) && (ltb (opener it e) q && leb (entries it e) (entries it q + 11))) ≡ true =
+              rw (z, lt-ltb (opener it e) q (omega arith), le-leb (entries it e) (entries it q + 11) (omega arith)) refl in w)
+              (m .after q (omega arith) (omega arith)));
           detail = refl;
         }
 
-    tail-told : Promised (whenFound (shortOne it e) (λ k. LoopTailNotFullWidth (address it k)))
+    tail-told : Promised (whenFound (shortOne it e) (λ q. LoopTailNotFullWidth (address it q)))
     tail-told =
-        let t : ℕ → Bool = λ k. isShort (it k) && inTail it e k in
+        let t : ℕ → Bool = λ q. isShort (it q) && inTail it e q in
         ⊎-elim
-        (λ z. subst (λ (f : Found). Promised (whenFound f (λ k. LoopTailNotFullWidth (address it k)))) (sym (newest-none t e z)) good)
-        (λ m. subst (λ (f : Found). Promised (whenFound f (λ k. LoopTailNotFullWidth (address it k)))) (sym (newest-is t e m)) (record { detail = λ s. latest-short m }))
+        (λ z. subst (λ (f : Found). Promised (whenFound f (λ q. LoopTailNotFullWidth (address it q)))) (sym (newest-none t e z)) good)
+        (λ m. subst (λ (f : Found). Promised (whenFound f (λ q. LoopTailNotFullWidth (address it q)))) (sym (newest-is t e m)) (record { detail = λ s. latest-short m }))
         (latest-row t e)
 
   -- ---- each refusal
-  holds : Holds it n Promised
+  holds : Holds k Promised
   holds =
       record {
         good = good;
@@ -116,8 +118,7 @@ module _ (it : ℕ → Coded) (n : ℕ) where
   answer-told (Refused w) count p = p .detail
 
 -- THE THEOREM: where a build tells 26, its detail is the parcel of the latest short one of a body's last 11
-pub short-told : (rows names : List ℕ) (lent : Lent) (t : Told) (x : Lent) → Builds rows names lent t x → t .number ≡ 26 → LatestShort (rowAt rows names) (rowsIn rows) (t .first)
+pub short-told : (rows names : List ℕ) (lent : Lent) (t : Told) (x : Lent) → Builds rows names lent t x → t .number ≡ 26 → LatestShort (kernelOf rows names) (t .first)
 short-told rows names lent t x b =
-    let it = rowAt rows names in
-    let n = rowsIn rows in
-    build-holds rows names lent (Promised it n) (holds it n) (another it n RowSlice refl) (Detail it n) (answer-told it n) t x b
+    let k = kernelOf rows names in
+    build-holds rows names lent (Promised k) (holds k) (another k RowSlice refl) (Detail k) (answer-told k) t x b

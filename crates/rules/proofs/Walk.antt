@@ -27,11 +27,11 @@ use Rattle.coded.specs.declared.Coded.the-variants as coded
 use Rattle.coded.specs.declared.Coded.the-variants.{Instruction, Label, Jump, LoopBegin, LoopEnd}
 use Rattle.coded.specs.Coded.{readVerdict, encodes}
 use Rattle.coded.proofs.Numbers.{row-tells, encodes-tells}
-use Rattle.places.specs.Items.{isLabel, isJump, sizeOf, total, place, address, entries, nest, rowAt, rowsIn}
+use Rattle.places.specs.Items.{Kernel, kernelOf, isLabel, isJump, sizeOf, total, place, address, entries, nest}
 use Rattle.places.specs.Looking.{Found, at, nothing, isFound, opener, sharer, shortOne, labelled}
-use Rattle.places.specs.Verdict.{whenFound, jumpOffset, loopRow, reach, reaches, faults, kernel, verdictAt, verdict}
+use Rattle.places.specs.Verdict.{whenFound, jumpOffset, loopRow, reach, reaches, faults, verdictAt, verdict}
 use Rattle.places.specs.declared.Rooms.{Rooms}
-use Rattle.places.specs.Left.{Lent, roomsIn, kernelOf, outcome, built, Builds}
+use Rattle.places.specs.Left.{Lent, roomsIn, outcome, built, Builds}
 use Rattle.refusals.proofs.Order.{all-first, either, stop-first}
 use Rattle.rules.proofs.Exactly.{parts}
 
@@ -51,7 +51,9 @@ loop-row it e b (LoopBegin c m) = loop-tells c m _
 loop-row it e b LoopEnd = refl
 loop-row it e b (coded.Refused r) = refl
 
-module _ (it : ℕ → Coded) (n : ℕ) (P : Verdict → Type 0) where
+module _ (k : Kernel) (P : Verdict → Type 0) where
+  open Kernel k using (it, n)
+
   -- P holds of each refusal, in the row that meets it; of 26 where the end closes a loop
   pub record Holds : Type 0 where
     pub good : P Good
@@ -64,30 +66,32 @@ module _ (it : ℕ → Coded) (n : ℕ) (P : Verdict → Type 0) where
     pub unmatched : P (Refused UnmatchedLoopEnd)
     pub empty : P (Refused EmptyLoop)
     pub shared : P (Refused SharedLoopEnd)
-    pub tail : (e : ℕ) → e < n → it e ≡ LoopEnd → 0 < nest it e → P (whenFound (shortOne it e) (λ k. LoopTailNotFullWidth (address it k)))
+    pub tail : (e : ℕ) → e < n → it e ≡ LoopEnd → 0 < nest it e → P (whenFound (shortOne it e) (λ q. LoopTailNotFullWidth (address it q)))
     pub unclosed : P (Refused UnclosedLoop)
     pub parcels-room : (m : ℕ) → P (Refused (NoRoomForParcels m))
     pub labels-room : (m : ℕ) → P (Refused (NoRoomForLabels m))
     pub jumps-room : (m : ℕ) → P (Refused (NoRoomForJumps m))
     pub loops-room : (m : ℕ) → P (Refused (NoRoomForLoops m))
 
-module _ (names : List ℕ) (it : ℕ → Coded) (n : ℕ) (lent : Lent) (P : Verdict → Type 0) (p : Holds it n P) where
+module _ (k : Kernel) (lent : Lent) (P : Verdict → Type 0) (p : Holds k P) where
+  open Kernel k using (it, n)
+
   abbrev r : Rooms
   r = roomsIn lent
 
   if : (b : Bool) (w : Refusal) → P (Refused w) → P (when b w)
   if b w h = holds-when P (p .good) b w h
 
-  if-found : (f : Found) (w : Refusal) → P (Refused w) → P (whenFound f (λ k. w))
-  if-found (at k) w h = h
+  if-found : (f : Found) (w : Refusal) → P (Refused w) → P (whenFound f (λ q. w))
+  if-found (at q) w h = h
   if-found nothing w h = p .good
 
   -- what is looked at once 24 is not met
   abbrev closing : ℕ → List Verdict
   closing e =
       when (eqb (entries it e) (entries it (opener it e) + 1)) EmptyLoop
-      ∷ whenFound (sharer it e) (λ k. SharedLoopEnd)
-      ∷ whenFound (shortOne it e) (λ k. LoopTailNotFullWidth (address it k))
+      ∷ whenFound (sharer it e) (λ q. SharedLoopEnd)
+      ∷ whenFound (shortOne it e) (λ q. LoopTailNotFullWidth (address it q))
       ∷ formVerdict (loopRow it e (opener it e) (it (opener it e)))
       ∷ []
 
@@ -107,9 +111,9 @@ module _ (names : List ℕ) (it : ℕ → Coded) (n : ℕ) (lent : Lent) (P : Ve
   room-for m size i = if (ltb m (place it i + size)) (NoRoomForParcels m) (p .parcels-room m)
 
   module _ (reads : (i : ℕ) → Tells reading (readVerdict (it i))) (codes : (i : ℕ) → Tells encoding (encodes (it i))) where
-    row-holds : (i : ℕ) → i < n → (x : Coded) → it i ≡ x → P (first (faults names it r i x))
+    row-holds : (i : ℕ) → i < n → (x : Coded) → it i ≡ x → P (first (faults k r i x))
     row-holds i h (Instruction c) e =
-        holds-first P (p .good) (faults names it r i (Instruction c)) (
+        holds-first P (p .good) (faults k r i (Instruction c)) (
           if (isBranch (c .kind) && ltb 0 (nest it i)) BranchInLoop (p .branch),
           (
             p .codes (formVerdict (c .form)) (subst (λ (x : Coded). Tells encoding (encodes x)) e (codes i)),
@@ -118,15 +122,15 @@ module _ (names : List ℕ) (it : ℕ → Coded) (n : ℕ) (lent : Lent) (P : Ve
         )
     row-holds i h (Label a b) e =
         let l = p .label i a b e in
-        holds-first P (p .good) (faults names it r i (Label a b)) (
+        holds-first P (p .good) (faults k r i (Label a b)) (
           if (ltb 0 (nest it i)) (LabelInLoop a b) (l .0),
           (
-            if (isFound (labelled names it a b i)) (DuplicateLabel a b) (l .1),
+            if (isFound (labelled k a b i)) (DuplicateLabel a b) (l .1),
             (if (ltb (r .labels) (total isLabel it i + 1)) (NoRoomForLabels (r .labels)) (p .labels-room (r .labels)), tt),
           ),
         )
     row-holds i h (Jump c a b) e =
-        holds-first P (p .good) (faults names it r i (Jump c a b)) (
+        holds-first P (p .good) (faults k r i (Jump c a b)) (
           if (ltb 0 (nest it i)) BranchInLoop (p .branch),
           (
             if (ltb (r .jumps) (total isJump it i + 1)) (NoRoomForJumps (r .jumps)) (p .jumps-room (r .jumps)),
@@ -134,7 +138,7 @@ module _ (names : List ℕ) (it : ℕ → Coded) (n : ℕ) (lent : Lent) (P : Ve
           ),
         )
     row-holds i h (LoopBegin c m) e =
-        holds-first P (p .good) (faults names it r i (LoopBegin c m)) (
+        holds-first P (p .good) (faults k r i (LoopBegin c m)) (
           if (ltb (r .loops) (nest it i + 1)) (NoRoomForLoops (r .loops)) (p .loops-room (r .loops)),
           (room-for (r .parcels) 3 i, tt),
         )
@@ -145,26 +149,26 @@ module _ (names : List ℕ) (it : ℕ → Coded) (n : ℕ) (lent : Lent) (P : Ve
     reach-holds c i a b e (at q) = p .codes (formVerdict (jumpForm c (jumpOffset it q i) false)) (jump-tells c (jumpOffset it q i) false)
     reach-holds c i a b e nothing = p .undefined i c a b e
 
-    jump-holds : (i : ℕ) (x : Coded) → it i ≡ x → P (reaches names it n i x)
+    jump-holds : (i : ℕ) (x : Coded) → it i ≡ x → P (reaches k i x)
     jump-holds i (Instruction c) e = p .good
     jump-holds i (Label a b) e = p .good
-    jump-holds i (Jump c a b) e = reach-holds c i a b e (labelled names it a b n)
+    jump-holds i (Jump c a b) e = reach-holds c i a b e (labelled k a b n)
     jump-holds i (LoopBegin c m) e = p .good
     jump-holds i LoopEnd e = p .good
     jump-holds i (coded.Refused w) e = p .good
 
-    pub verdict-holds : P (verdict (kernel names it n) (roomsIn lent))
+    pub verdict-holds : P (verdict k (roomsIn lent))
     verdict-holds =
-        holds-first P (p .good) (parts names it n lent) (
-          rows-in-turn P (p .good) (verdictAt (kernel names it n) r) n (λ i h. row-holds i h (it i) refl),
+        holds-first P (p .good) (parts k lent) (
+          rows-in-turn P (p .good) (verdictAt k r) n (λ i h. row-holds i h (it i) refl),
           (
             if (ltb 0 (nest it n)) UnclosedLoop (p .unclosed),
-            (rows-in-turn P (p .good) (λ i. reaches names it n i (it i)) n (λ i h. jump-holds i (it i) refl), tt),
+            (rows-in-turn P (p .good) (λ i. reaches k i (it i)) n (λ i h. jump-holds i (it i) refl), tt),
           ),
         )
 
 -- ---- what a build tells: what follows of its answer from what holds of its verdict, and of refusal 1
-module _ (rows names : List ℕ) (lent : Lent) (P : Verdict → Type 0) (p : Holds (rowAt rows names) (rowsIn rows) P) (slice : P (Refused RowSlice)) where
+module _ (rows names : List ℕ) (lent : Lent) (P : Verdict → Type 0) (p : Holds (kernelOf rows names) P) (slice : P (Refused RowSlice)) where
   abbrev rowed : ℕ → List ℕ
   rowed i = take rowWidth (drop (i * rowWidth) rows)
 
@@ -174,5 +178,5 @@ module _ (rows names : List ℕ) (lent : Lent) (P : Verdict → Type 0) (p : Hol
       go : (w : Bool) → Q (answered (cond w (built (kernelOf rows names) lent) (outcome (answer.Refused RowSlice) lent) .answer))
       go true =
           so (verdict (kernelOf rows names) (roomsIn lent)) _
-          (verdict-holds names (rowAt rows names) (rowsIn rows) lent P p (λ i. row-tells (rowed i) (length names)) (λ i. encodes-tells (rowed i) (length names)))
+          (verdict-holds (kernelOf rows names) lent P p (λ i. row-tells (rowed i) (length names)) (λ i. encodes-tells (rowed i) (length names)))
       go false = so (Refused RowSlice) 0 slice

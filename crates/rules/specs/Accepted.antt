@@ -15,15 +15,14 @@ use Rattle.encode.specs.declared.Form.{Form}
 use Rattle.encode.specs.declared.Form.the-variants.{Word}
 use Rattle.encode.specs.Encoding.{formParcels, jumpForm, loopForm}
 use Rattle.coded.specs.declared.Coding.{Coding}
-use Rattle.coded.specs.declared.Coded.{Coded}
 use Rattle.coded.specs.declared.Coded.the-variants.{Instruction, Jump, LoopBegin}
-use Rattle.places.specs.Items.{rowAt, rowsIn, sizeOf, size, place, address}
+use Rattle.places.specs.Items.{Kernel, kernelOf, sizeOf, size, place, address}
 use Rattle.places.specs.Left.{Lent, roomsIn, left, gather}
 use Rattle.rules.specs.Rules.{Aimed, Pair, Last, Valid}
 
 -- the rules of a valid kernel, for rows, names and lent buffers
 abbrev pub ValidRows : List ℕ → List ℕ → Lent → Type 0
-ValidRows rows names lent = Valid names (rowAt rows names) (rowsIn rows) (roomsIn lent)
+ValidRows rows names lent = Valid (kernelOf rows names) (roomsIn lent)
 
 -- the signed number in the lowest n bits of the word whose three parcels stand at a place, high first
 abbrev pub offsetAt : ℕ → ℕ → List ℕ → ℤ
@@ -35,11 +34,13 @@ pub record WordAt (f : Form) (place : ℕ) (parcels : List ℕ) : Type 0 where
   pub is : f ≡ Word word
   pub stands : take 3 (drop place parcels) ≡ cut 3 word
 
-module _ (names : List ℕ) (it : ℕ → Coded) (n : ℕ) (P : List ℕ) where
+module _ (k : Kernel) (P : List ℕ) where
+  open Kernel k using (it, n)
+
   -- the jump of row i to the name at a of length b: the row of its label is given; its parcels are the word of its condition over
   -- the label's address minus its own, and bits 23:0 carry that offset
   pub record JumpCarries (i : ℕ) (c : Condition) (a b : ℕ) : Type 0 where
-    pub aimed : Aimed names it n i a b
+    pub aimed : Aimed k i a b
     pub word : WordAt (jumpForm c (pos (address it (aimed .row)) -ℤ pos (address it i)) false) (place it i) P
     pub carries : offsetAt 24 (place it i) P ≡ pos (address it (aimed .row)) -ℤ pos (address it i)
 
@@ -48,8 +49,8 @@ module _ (names : List ℕ) (it : ℕ → Coded) (n : ℕ) (P : List ℕ) where
   pub record LoopCarries (b : ℕ) (c : LoopCount) (m : LoopMode) : Type 0 where
     pub end : ℕ
     pub last : ℕ
-    pub pair : Pair it n b end
-    pub is-last : Last it n last end
+    pub pair : Pair k b end
+    pub is-last : Last k last end
     pub in-body : b < last
     pub word : WordAt (loopForm c m (pos (address it last) -ℤ pos (address it b))) (place it b) P
     pub carries : offsetAt 23 (place it b) P ≡ pos (address it last) -ℤ pos (address it b)
@@ -57,8 +58,8 @@ module _ (names : List ℕ) (it : ℕ → Coded) (n : ℕ) (P : List ℕ) where
   -- the parcels P of an accepted kernel, where p was lent
   pub record AcceptedParcels (p : List ℕ) : Type 0 where
     -- the items' parcels in order, each at its place, then what was lent
-    pub in-order : P ≡ gather (λ i. left names it n i (it i) .parcels) n ++ drop (place it n) p
-    pub at-place : (i : ℕ) → i < n → take (size (it i)) (drop (place it i) P) ≡ left names it n i (it i) .parcels
+    pub in-order : P ≡ gather (λ i. left k i (it i) .parcels) n ++ drop (place it n) p
+    pub at-place : (i : ℕ) → i < n → take (size (it i)) (drop (place it i) P) ≡ left k i (it i) .parcels
     -- an instruction's, each labelled jump's, each loop start's
     pub instruction : (i : ℕ) (c : Coding) → i < n → it i ≡ Instruction c → take (sizeOf (c .form)) (drop (place it i) P) ≡ formParcels (c .form)
     pub jump : (i : ℕ) (c : Condition) (a b : ℕ) → i < n → it i ≡ Jump c a b → JumpCarries i c a b

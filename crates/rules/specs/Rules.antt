@@ -14,22 +14,22 @@ use Rattle.items.specs.declared.LoopMode.{LoopMode}
 use Rattle.coded.specs.declared.Coded.the-variants.{Instruction, Label, Jump, LoopBegin, LoopEnd}
 use Rattle.encode.specs.Encoding.{formVerdict}
 use Rattle.coded.specs.declared.Coding.{Coding}
-use Rattle.coded.specs.declared.Coded.{Coded}
 use Rattle.coded.specs.declared.Coded.the-variants as coded
-use Rattle.places.specs.Items.{size, isEntry, isLabel, isJump, total, place, address, entries, nest}
+use Rattle.places.specs.Items.{Kernel, size, isEntry, isLabel, isJump, total, place, address, entries, nest}
 use Rattle.places.specs.declared.Rooms.{Rooms}
 
 -- two ranges of the names hold the same bytes
 abbrev pub SameName : List ℕ → ℕ → ℕ → ℕ → ℕ → Type 0
 SameName names a b c d = take b (drop a names) ≡ take d (drop c names)
 
-module _ (it : ℕ → Coded) (n : ℕ) where
+module _ (k : Kernel) where
+  open Kernel k using (names, it, n)
+
   -- 1. Every row is constructible and every instruction encodes.
   pub record Rule1 : Type 0 where
     pub constructible : (i : ℕ) → i < n → (r : Refusal) → it i ≡ coded.Refused r → ⊥
     pub encodes : (i : ℕ) → i < n → (c : Coding) → it i ≡ Instruction c → formVerdict (c .form) ≡ Good
 
-module _ (names : List ℕ) (it : ℕ → Coded) (n : ℕ) where
   -- the jump at i has a label: its row and name
   pub record Aimed (i a b : ℕ) : Type 0 where
     pub row : ℕ
@@ -47,7 +47,6 @@ module _ (names : List ℕ) (it : ℕ → Coded) (n : ℕ) where
     pub once : (i j a b c d : ℕ) → i < n → j < n → it i ≡ Label a b → it j ≡ Label c d → SameName names a b c d → i ≡ j
     pub aimed : (i : ℕ) → i < n → (c : Condition) (a b : ℕ) → it i ≡ Jump c a b → Aimed i a b
 
-module _ (it : ℕ → Coded) (n : ℕ) where
   -- the loop start b and the loop end e are a pair of brackets: what stands between them lies deeper
   pub record Pair (b e : ℕ) : Type 0 where
     pub count : LoopCount
@@ -57,7 +56,7 @@ module _ (it : ℕ → Coded) (n : ℕ) where
     pub order : b < e
     pub before-end : e < n
     pub level : nest it e ≡ nest it b + 1
-    pub deep : (k : ℕ) → b < k → k ≤ e → nest it b < nest it k
+    pub deep : (q : ℕ) → b < q → q ≤ e → nest it b < nest it q
 
   -- an instruction in the body, between the brackets; a jump and a nested loop start count as one
   pub record Body (b e : ℕ) : Type 0 where
@@ -71,27 +70,27 @@ module _ (it : ℕ → Coded) (n : ℕ) where
   pub record Rule3 : Type 0 where
     pub matched : (e : ℕ) → e < n → it e ≡ LoopEnd → 0 < nest it e
     pub closed : nest it n ≡ 0
-    pub no-label : (b e k a c : ℕ) → Pair b e → b < k → k < e → it k ≡ Label a c → ⊥
-    pub no-jump : (b e k : ℕ) (c : Condition) (a d : ℕ) → Pair b e → b < k → k < e → it k ≡ Jump c a d → ⊥
-    pub no-branch : (b e k : ℕ) (c : Coding) → Pair b e → b < k → k < e → it k ≡ Instruction c → isBranch (c .kind) ≡ false
+    pub no-label : (b e q a c : ℕ) → Pair b e → b < q → q < e → it q ≡ Label a c → ⊥
+    pub no-jump : (b e q : ℕ) (c : Condition) (a d : ℕ) → Pair b e → b < q → q < e → it q ≡ Jump c a d → ⊥
+    pub no-branch : (b e q : ℕ) (c : Coding) → Pair b e → b < q → q < e → it q ≡ Instruction c → isBranch (c .kind) ≡ false
     pub some : (b e : ℕ) → Pair b e → Body b e
 
-  -- row k is the last instruction before row e: as many stand before e as up to k
-  pub record Last (k e : ℕ) : Type 0 where
-    pub before : k < e
-    pub entry : isEntry (it k) ≡ 1
-    pub none-after : entries it (suc k) ≡ entries it e
+  -- row q is the last instruction before row e: as many stand before e as up to q
+  pub record Last (q e : ℕ) : Type 0 where
+    pub before : q < e
+    pub entry : isEntry (it q) ≡ 1
+    pub none-after : entries it (suc q) ≡ entries it e
 
   -- 4. No two loops end on the same instruction. In each body the last 11 instructions (all, if fewer) take three parcels:
   -- each of the body from which at most 11 stand up to the end, itself counted.
   pub record Rule4 : Type 0 where
-    pub apart : (b e b′ e′ k : ℕ) → Pair b e → Pair b′ e′ → Last k e → Last k e′ → e ≡ e′
-    pub tail : (b e k : ℕ) → Pair b e → b < k → k < e → isEntry (it k) ≡ 1 → entries it e ≤ entries it k + 11 → size (it k) ≡ 3
+    pub apart : (b e b′ e′ q : ℕ) → Pair b e → Pair b′ e′ → Last q e → Last q e′ → e ≡ e′
+    pub tail : (b e q : ℕ) → Pair b e → b < q → q < e → isEntry (it q) ≡ 1 → entries it e ≤ entries it q + 11 → size (it q) ≡ 3
 
   -- 5. Immediate counts are not 0; a loop's offset is at most 0x3fffff.
   pub record Rule5 : Type 0 where
     pub counted : (b c : ℕ) (m : LoopMode) → b < n → it b ≡ LoopBegin (Immediate c) m → 0 < c
-    pub near : (b e k : ℕ) → Pair b e → Last k e → address it k ≤ address it b + 0x3f_ffff
+    pub near : (b e q : ℕ) → Pair b e → Last q e → address it q ≤ address it b + 0x3f_ffff
 
   -- 6. Totals of parcels, labels, jumps and the deepest nesting fit their rooms.
   pub record Rule6 (r : Rooms) : Type 0 where
@@ -100,11 +99,11 @@ module _ (it : ℕ → Coded) (n : ℕ) where
     pub jumps : total isJump it n ≤ r .jumps
     pub loops : (i : ℕ) → i ≤ n → nest it i ≤ r .loops
 
--- a valid kernel
-pub record Valid (names : List ℕ) (it : ℕ → Coded) (n : ℕ) (r : Rooms) : Type 0 where
-  pub rule1 : Rule1 it n
-  pub rule2 : Rule2 names it n
-  pub rule3 : Rule3 it n
-  pub rule4 : Rule4 it n
-  pub rule5 : Rule5 it n
-  pub rule6 : Rule6 it n r
+  -- a valid kernel
+  pub record Valid (r : Rooms) : Type 0 where
+    pub rule1 : Rule1
+    pub rule2 : Rule2
+    pub rule3 : Rule3
+    pub rule4 : Rule4
+    pub rule5 : Rule5
+    pub rule6 : Rule6 r

@@ -2,23 +2,22 @@
 use mathlib.Core.Path.{_≡_}
 use Prim.Native.Nat.{ℕ, _+_, _≤_, _<_}
 use lib.IntN.{ℤ, pos}
-use Rattle.coded.specs.declared.Coded.{Coded}
-use Rattle.places.specs.Items.{size, isEntry, address, entries}
+use Rattle.places.specs.Items.{Kernel, size, isEntry, address, entries}
 use Rattle.rules.specs.Rules.{Pair}
 
 -- "In each body the last 11 instructions (all, if fewer) take three parcels": of one body the latest that does not, and its parcel
-pub record LatestShort (it : ℕ → Coded) (n : ℕ) (parcel : ℤ) : Type 0 where
+pub record LatestShort (k : Kernel) (parcel : ℤ) : Type 0 where
   pub start : ℕ
   pub end : ℕ
-  pub pair : Pair it n start end
+  pub pair : Pair k start end
   -- an instruction of the body
   pub row : ℕ
   pub after : start < row
   pub before : row < end
-  pub entry : isEntry (it row) ≡ 1
+  pub entry : isEntry (k .it row) ≡ 1
   -- one of the last 11, that does not take three parcels
-  pub in-tail : entries it end ≤ entries it row + 11
-  pub short : size (it row) ≡ 3 → ⊥
+  pub in-tail : entries (k .it) end ≤ entries (k .it) row + 11
+  pub short : size (k .it row) ≡ 3 → ⊥
   -- each later instruction of the body does
-  pub latest : (k : ℕ) → row < k → k < end → isEntry (it k) ≡ 1 → size (it k) ≡ 3
-  pub detail : parcel ≡ pos (address it row)
+  pub latest : (q : ℕ) → row < q → q < end → isEntry (k .it q) ≡ 1 → size (k .it q) ≡ 3
+  pub detail : parcel ≡ pos (address (k .it) row)

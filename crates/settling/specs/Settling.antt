@@ -16,7 +16,7 @@ use Rattle.encode.specs.Encoding.{formVerdict, jumpForm, settled}
 use Rattle.rows.specs.Rows.{mostRows}
 use Rattle.coded.specs.declared.Coded.{Coded}
 use Rattle.coded.specs.Coded.{ofJump}
-use Rattle.places.specs.Items.{addressOf, labelWidth, jumpWidth, mostParcels, mostEntries}
+use Rattle.places.specs.Items.{Kernel, addressOf, labelWidth, jumpWidth, mostParcels, mostEntries}
 use Rattle.tables.specs.declared.Sought.{Sought}
 use Rattle.tables.specs.declared.Sought.the-variants.{At, Nowhere}
 use Rattle.tables.specs.Tables.{lookup, Entries}
@@ -46,12 +46,13 @@ pub record Settles (ns ls : List ℕ) (n p : ℕ) (x : Coded) (ps : List ℕ) (r
   pub answer : r ≡ aimRowChk ns ls n p x
   pub parcels : ps′ ≡ ifGood r (rowAimed ns ls n p ps x) ps
 
--- waiting jump k: its place, and what its row says
-abbrev pub waitChk : List ℕ → (ℕ → Coded) → List ℕ → ℕ → List ℕ → ℕ → List ℕ → Verdict
-waitChk ns it ls n js k ps = aimRowChk ns ls n (getD js (jumpWidth * k) 0) (it (getD js (jumpWidth * k + 1) 0))
+-- waiting jump q of the table js: its place, and what its row says
+module _ (k : Kernel) (ls : List ℕ) (n : ℕ) (js : List ℕ) where
+  abbrev pub waitChk : ℕ → List ℕ → Verdict
+  waitChk q ps = aimRowChk (k .names) ls n (getD js (jumpWidth * q) 0) (k .it (getD js (jumpWidth * q + 1) 0))
 
-abbrev pub waited : List ℕ → (ℕ → Coded) → List ℕ → ℕ → List ℕ → ℕ → List ℕ → List ℕ
-waited ns it ls n js k ps = rowAimed ns ls n (getD js (jumpWidth * k) 0) ps (it (getD js (jumpWidth * k + 1) 0))
+  abbrev pub waited : ℕ → List ℕ → List ℕ
+  waited q ps = rowAimed (k .names) ls n (getD js (jumpWidth * q) 0) ps (k .it (getD js (jumpWidth * q + 1) 0))
 
 -- ---- what the functions lean on
 pub record AimFine (ns ls : List ℕ) (n p room : ℕ) : Type 0 where
@@ -60,14 +61,14 @@ pub record AimFine (ns ls : List ℕ) (n p room : ℕ) : Type 0 where
   pub jump-in : p + 3 ≤ room
   pub jump-few : p ≤ mostParcels
 
-pub record AimsFine (ns ls : List ℕ) (n : ℕ) (js : List ℕ) (rows count room : ℕ) : Type 0 where
+pub record AimsFine (k : Kernel) (ls : List ℕ) (n : ℕ) (js : List ℕ) (count room : ℕ) : Type 0 where
   pub labels-in : labelWidth * n ≤ length ls
-  pub entries : Entries ns ls n
+  pub entries : Entries (k .names) ls n
   pub jumps-in : jumpWidth * count ≤ length js
-  pub places-in : (k : ℕ) → k < count → getD js (jumpWidth * k) 0 + 3 ≤ room
-  pub places-few : (k : ℕ) → k < count → getD js (jumpWidth * k) 0 ≤ mostParcels
-  pub rows-in : (k : ℕ) → k < count → getD js (jumpWidth * k + 1) 0 < rows
-  pub rows-few : rows ≤ mostRows
+  pub places-in : (q : ℕ) → q < count → getD js (jumpWidth * q) 0 + 3 ≤ room
+  pub places-few : (q : ℕ) → q < count → getD js (jumpWidth * q) 0 ≤ mostParcels
+  pub rows-in : (q : ℕ) → q < count → getD js (jumpWidth * q + 1) 0 < k .n
+  pub rows-few : k .n ≤ mostRows
 
 -- at parcels, n label entries and m waiting jumps lie in the buffers
 pub record Used (at n m p l j : ℕ) : Type 0 where

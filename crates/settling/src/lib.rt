@@ -6,7 +6,7 @@ ghost use Prim.Native.Nat.{_+_, _≤_};
 ghost use lib.ListN.{length};
 ghost use lib.Seq.{sets};
 ghost use Rattle.encode.specs.Encoding.{formVerdict};
-ghost use Rattle.places.specs.Items.{rowAt, rowsIn, mostParcels};
+ghost use Rattle.places.specs.Items.{kernelOf, mostParcels};
 ghost use Rattle.refusals.specs.Order.{ifGood};
 ghost use Rattle.encode.specs.Encoding.{settled};
 ghost use Rattle.refusals.specs.Scan.{Came};
@@ -74,8 +74,8 @@ pub fn aim_all(
     jumps: &[u32],
     count: usize,
 ) -> Verdict
-    requires { ⌜ AimsFine (now names) (now labels) n (now jumps) (rowsIn (now rows)) count (length (now parcels)) ⌝ }
-    ensures { λ r. ⌜ Came (waitChk (now (names .entry)) (rowAt (now (rows .entry)) (now (names .entry))) (now (labels .entry)) n (now (jumps .entry))) (waited (now (names .entry)) (rowAt (now (rows .entry)) (now (names .entry))) (now (labels .entry)) n (now (jumps .entry))) (now (parcels .entry)) count r (now (parcels .exit)) ⌝ }
+    requires { ⌜ AimsFine (kernelOf (now rows) (now names)) (now labels) n (now jumps) count (length (now parcels)) ⌝ }
+    ensures { λ r. ⌜ Came (waitChk (kernelOf (now (rows .entry)) (now (names .entry))) (now (labels .entry)) n (now (jumps .entry))) (waited (kernelOf (now (rows .entry)) (now (names .entry))) (now (labels .entry)) n (now (jumps .entry))) (now (parcels .entry)) count r (now (parcels .exit)) ⌝ }
 {
     let mut k = 0;
     while k < count {

@@ -1,1 +1,9 @@
 pub mod Searches
+pub mod Stores
+pub mod Which
+pub mod Held
+pub mod Lookups
+pub mod Fronts
+pub mod Records
+pub mod Wiped
+pub mod Values

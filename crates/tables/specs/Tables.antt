@@ -4,7 +4,8 @@ use mathlib.Core.List.{List, _++_}
 use Prim.Native.Nat.{ℕ, zero, suc, _+_, _*_, _≤_, _<_}
 use lib.ListN.{length, getD, drop, replicate}
 use lib.Dec.{eqb}
-use Rattle.places.specs.Items.{labelWidth}
+use Rattle.coded.specs.Fine.{CodedFine}
+use Rattle.places.specs.Items.{Kernel, labelWidth}
 use Rattle.places.specs.Looking.{sameFrom}
 use Rattle.tables.specs.declared.Sought.{Sought}
 use Rattle.tables.specs.declared.Sought.the-variants.{At, Nowhere}
@@ -26,6 +27,13 @@ isThere Nowhere = false
 abbrev pub Entries : List ℕ → List ℕ → ℕ → Type 0
 Entries ns ls n = (k : ℕ) → k < n → getD ls (labelWidth * k) 0 + getD ls (labelWidth * k + 1) 0 ≤ length ns
 
--- zeros in the first n numbers
+-- what every row of a kernel comes to is fine over its names
+abbrev pub KernelFine : Kernel → Type 0
+KernelFine k = (i : ℕ) → CodedFine (length (k .names)) (k .it i)
+
+-- zero in the first n places of a table, and in the first n of a table of numbers
+abbrev pub wiped : {X : Type 0} → X → ℕ → List X → List X
+wiped x n l = replicate n x ++ drop n l
+
 abbrev pub zeroed : ℕ → List ℕ → List ℕ
-zeroed n l = replicate n 0 ++ drop n l
+zeroed = wiped 0

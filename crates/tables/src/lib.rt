@@ -1,11 +1,14 @@
-// The lent tables: label entries found by name, runs of numbers stored, and wiped.
+// The lent tables: label entries found by name, runs of numbers and a form's parcels stored, loop records, and all of them wiped.
+pub mod loops;
 pub mod names;
 
 ghost use mathlib.Core.Path.{_≡_};
 ghost use Prim.Native.Nat.{_+_, _≤_};
 ghost use lib.ListN.{length, take};
 ghost use lib.Seq.{sets};
+ghost use Rattle.encode.specs.Encoding.{formParcels};
 ghost use Rattle.tables.specs.Tables.{zeroed};
+use encode::Form;
 
 // The address of a label, if there is one.
 pub enum Sought {
@@ -47,4 +50,14 @@ pub fn wipe32(table: &mut [u32], n: usize)
         table[i] = 0;
         i += 1;
     }
+}
+
+// The parcels of a form stand at `at`. The answer is the place past them.
+pub fn put_form(parcels: &mut [u16], at: usize, form: Form) -> usize
+    requires { ⌜ at + length (formParcels form) ≤ length (now parcels) ⌝ }
+    ensures { λ r. ⌜ (r ≡ at + length (formParcels form)) × (now (parcels .exit) ≡ sets (now (parcels .entry)) at (formParcels form)) ⌝ }
+{
+    let cut = encode::cut_form(form);
+    let words = cut.places;
+    writer::emit(parcels, at, words, cut.count)
 }

@@ -11,6 +11,7 @@ use Rattle.refusals.specs.declared.Verdict.the-variants.{Good, Refused}
 use Rattle.coded.specs.declared.Coded.{Coded}
 use Rattle.places.specs.declared.OpenLoop.{OpenLoop}
 use Rattle.places.specs.declared.Rooms.{Rooms}
+use Rattle.places.specs.Left.{Lent}
 use Rattle.machine.specs.declared.State.{State}
 use Rattle.machine.specs.declared.Step.{Step}
 use Rattle.machine.specs.Machine.{Stepped}
@@ -28,6 +29,6 @@ pub row-last : (i n : ℕ) → goingOn Good (ltb i n) ≡ false → n ≤ i
 row-last i n e = ltb-false i n e
 
 -- what a step makes of a row it makes of what the row was read as
-pub read-as : {ns : List ℕ} {r : Rooms} {x y : Coded} {row : ℕ} {s : State} {p l j : List ℕ} {top : OpenLoop} {z : Step} {p′ l′ j′ : List ℕ}
-    → x ≡ y → Stepped ns r x row s p l j top z p′ l′ j′ → Stepped ns r y row s p l j top z p′ l′ j′
+pub read-as : {ns : List ℕ} {r : Rooms} {x y : Coded} {row : ℕ} {s : State} {lent : Lent} {top : OpenLoop} {z : Step} {left : Lent}
+    → x ≡ y → Stepped ns r x row s lent top z left → Stepped ns r y row s lent top z left
 read-as e h = rw e at h

@@ -10,7 +10,7 @@ use Rattle.coded.specs.declared.Coded.{Coded}
 use Rattle.coded.specs.declared.Coded.the-variants as coded
 use Rattle.places.specs.declared.OpenLoop.{OpenLoop}
 use Rattle.places.specs.declared.Rooms.{Rooms}
-use Rattle.places.specs.Left.{Lent, lentOf, zeroLoop}
+use Rattle.places.specs.Left.{Lent, lentOf, zeroLoop, withLoops}
 use Rattle.machine.specs.declared.State.{State}
 use Rattle.machine.specs.declared.Step.{Step}
 use Rattle.machine.specs.declared.Step.the-variants.{On, Opened, Closed, Stop}
@@ -53,7 +53,7 @@ closed-none s lent z = mem-eq (ap (λ (d : ℕ). level d s) (sym z)) refl refl r
 
 -- the innermost record zeroed
 abbrev pub popped : State → Lent → Lent
-popped s lent = lentOf (lent .parcels) (lent .labels) (lent .jumps) (set (lent .loops) (s .depth - 1) zeroLoop)
+popped s lent = withLoops lent (set (lent .loops) (s .depth - 1) zeroLoop)
 
 -- one loop closed, the rest later
 pub closed-one : (s : State) (lent : Lent) → 0 < s .depth → closed (memOf (level (s .depth - 1) s) (popped s lent)) ≡ closed (memOf s lent)

@@ -2,8 +2,8 @@
 use mathlib.Core.Path.{_≡_, refl, sym, ap, ap₂, _∙_, subst}
 use mathlib.Core.Logic.{_⊎_, inl, inr}
 use mathlib.Core.Bool.{Bool, true, false, cond}
-use mathlib.Core.List.{List}
-use Prim.Native.Nat.{ℕ, zero, _+_, _-_, _*_, _≤_, _<_}
+use mathlib.Core.List.{List, []}
+use Prim.Native.Nat.{ℕ, _+_, _-_, _*_, _≤_, _<_}
 use native.Mathlib.Omega.{arith}
 use lib.ListN.{length, getD, set}
 use lib.Dec.{ltb}
@@ -17,14 +17,14 @@ use Rattle.rows.specs.Rows.{wellFormed}
 use Rattle.rows.proofs.Limit.{rows-few}
 use Rattle.places.specs.declared.OpenLoop.{OpenLoop}
 use Rattle.places.specs.declared.Rooms.{Rooms}
-use Rattle.places.specs.Items.{rowAt, rowsIn}
+use Rattle.places.specs.Items.{Kernel, kernelOf, rowAt, rowsIn}
 use Rattle.refusals.specs.Order.{when, orElse}
-use Rattle.places.specs.Left.{Lent, zeroLoop}
+use Rattle.places.specs.Left.{Lent, zeroLoop, withLoops}
 use Rattle.refusals.proofs.Order.{refused-good}
-use Rattle.machine.specs.declared.State.{State}
+use Rattle.checks.specs.Rooming.{RoomingIn}
 use Rattle.machine.specs.declared.Step.{Step}
 use Rattle.machine.specs.declared.Step.the-variants.{Stop}
-use Rattle.machine.specs.Machine.{Mem, memOf, check, next, topOf, stepRow, stepBy, stepState, loopsBy, Stepped, Rooming, GoodFor}
+use Rattle.machine.specs.Machine.{Mem, memOf, check, next, topOf, stepRow, stepBy, stepState, loopsBy, GoodFor}
 use Rattle.refusals.specs.Scan.{scanEnd, Going, Came, going-start, going-next, going-stop, going-end}
 use Rattle.machine.specs.Fold.{rowChk, zeroState, memAt, rowNext}
 use Rattle.machine.specs.Finish.{level, closeVerdict, closed}
@@ -33,12 +33,12 @@ use Rattle.prefixes.proofs.Names.{row-fine}
 use Rattle.agrees.proofs.Keeps.{keep, good-zero}
 use Rattle.taking.specs.declared.Taking.{Taking}
 use Rattle.taking.specs.declared.Turned.{Turned}
-use Rattle.taking.specs.Taking.{formed, rowsTaken, startOf, goingOn, moreOf, wentOn, turnedOf, lateOf, LateTurn, Stepping, Onward, Ready, Turnt, tookVerdict, tookMem, Took}
+use Rattle.taking.specs.Taking.{formed, rowsTaken, startOf, goingOn, moreOf, wentOn, turnedOf, lateOf, RowTurn, LateTurn, Stepping, Onward, Ready, Turnt, tookVerdict, tookMem, Took}
 use Rattle.taking.proofs.NextRow.{row-next, row-last}
 use Rattle.taking.proofs.Records.{turn-loops, turn-on, deeper-by-one, mem-eq, closed-none, closed-one, popped, good-less}
 
 -- ---- one turn
-pub ready-steps : {rs ns : List ℕ} {r : Rooms} {t : Taking} {lent : Lent} {top : OpenLoop} → Ready rs ns r t lent → top ≡ getD (lent .loops) (t .state .depth - 1) zeroLoop → Stepping rs ns r t (lent .parcels) (lent .labels) (lent .jumps) top (length (lent .loops))
+pub ready-steps : {k : Kernel} {r : Rooms} {t : Taking} {lent : Lent} {top : OpenLoop} → Ready k r t lent → top ≡ getD (lent .loops) (t .state .depth - 1) zeroLoop → Stepping k r t (withLoops lent []) top
 ready-steps {t} h e =
     let g = h .good in
     record {
@@ -46,10 +46,10 @@ ready-steps {t} h e =
       few = h .few;
     }
 
-pub turnt-is : {rs ns : List ℕ} {r : Rooms} {t : Taking} {lent : Lent} {top : OpenLoop} {y : Turned} {lent′ : Lent} → Ready rs ns r t lent
-    → top ≡ getD (lent .loops) (t .state .depth - 1) zeroLoop → Onward rs ns r t (lent .parcels) (lent .labels) (lent .jumps) top (length (lent .loops)) y (lent′ .parcels) (lent′ .labels) (lent′ .jumps) → (lent′ .loops) ≡ set (lent .loops) (y .slot) (y .rec) → Turnt rs ns r t lent (y .taking) lent′
-turnt-is {rs} {ns} {r} {t} {lent} {y} {lent′} h e o q =
-    record { turn = y; onward = subst (λ (z : OpenLoop). Onward rs ns r t (lent .parcels) (lent .labels) (lent .jumps) z (length (lent .loops)) y (lent′ .parcels) (lent′ .labels) (lent′ .jumps)) e o; taking = refl; loops = q }
+pub turnt-is : {k : Kernel} {r : Rooms} {t : Taking} {lent : Lent} {top : OpenLoop} {y : Turned} {lent′ : Lent} → Ready k r t lent
+    → top ≡ getD (lent .loops) (t .state .depth - 1) zeroLoop → Onward k r t (withLoops lent []) top (length (lent .loops)) y (withLoops lent′ []) → (lent′ .loops) ≡ set (lent .loops) (y .slot) (y .rec) → Turnt k r t lent (y .taking) lent′
+turnt-is {k} {r} {t} {lent} {y} {lent′} h e o q =
+    record { turn = y; onward = subst (λ (z : OpenLoop). Onward k r t (withLoops lent []) z (length (lent .loops)) y (withLoops lent′ [])) e o; taking = refl; loops = q }
 
 -- ---- along the turns: what is left to do
 abbrev pub unrefused : Verdict → ℕ
@@ -67,10 +67,10 @@ module _ (rs ns : List ℕ) (r : Rooms) (lent₀ : Lent) where
   m₀ = memOf zeroState lent₀
 
   abbrev C : ℕ → Mem → Verdict
-  C = rowChk ns r it (rowsTaken rs) m₀
+  C = rowChk (kernelOf rs ns) r
 
   abbrev N : ℕ → Mem → Mem
-  N = rowNext ns r it (rowsTaken rs) m₀
+  N = rowNext (kernelOf rs ns) r
 
   -- among the rows
   pub record Rowing (t : Taking) (lent : Lent) : Type 0 where
@@ -92,7 +92,7 @@ module _ (rs ns : List ℕ) (r : Rooms) (lent₀ : Lent) where
 
   -- where the fold came to
   came-mem : {v : Verdict} {m : Mem} → Came C N m₀ (rowsTaken rs) v m → m ≡ tookMem rs ns r lent₀
-  came-mem c = c .here ∙ mem-is ns r it (rowsTaken rs) m₀ (scanEnd C N m₀ (rowsTaken rs) 0)
+  came-mem c = c .here ∙ mem-is (kernelOf rs ns) r m₀ (scanEnd C N m₀ (rowsTaken rs) 0)
 
   -- the verdict on all, from that of the rows
   final : wellFormed (length rs) ≡ true → (v : Verdict) (m : Mem) → v ≡ tookVerdict rs ns r lent₀ → m ≡ tookMem rs ns r lent₀
@@ -115,75 +115,84 @@ module _ (rs ns : List ℕ) (r : Rooms) (lent₀ : Lent) where
         go false q = let z : _≡_ {A = Bool} false true = sym f ∙ rw q at e in let y : _≡_ {A = ℕ} 0 1 = cc in absurd (omega arith)
 
     module _ (more : moreOf rs t ≡ true) where
-      ready : Along t lent → Ready rs ns r t lent
+      ready : Along t lent → Ready (kernelOf rs ns) r t lent
       ready (inl a) = record { good = a .good; few = λ _. rows-few (length rs) (a .rows-formed) }
       ready (inr a) = record { good = a .good; few = λ e. absurd (refused-good (a .why) (sym (a .stopped) ∙ e)) }
 
-      module _ (x : Taking) (lent′ : Lent) where
-        -- a row, taken in
-        row-good : Rowing t lent → t .row < rowsIn rs → (y : Turned) (z : Step) → Stepped ns r (it (t .row)) (t .row) (t .state) (lent .parcels) (lent .labels) (lent .jumps) (topOf (t .state) (lent .loops)) z (lent′ .parcels) (lent′ .labels) (lent′ .jumps) → y ≡ turnedOf t z (topOf (t .state) (lent .loops)) (length (lent .loops)) → x ≡ y .taking
-            → (lent′ .loops) ≡ set (lent .loops) (y .slot) (y .rec) → check ns r (it (t .row)) M ≡ Good → Rowing x lent′
-        row-good a h y z s e q w v =
-            let top = topOf (t .state) (lent .loops) in
-            let step : z ≡ stepRow (it (t .row)) (t .state) = rw v at (s .answer) in
-            let is : y ≡ turnedOf t (stepRow (it (t .row)) (t .state)) top (length (lent .loops)) = e ∙ ap (λ (b : Step). turnedOf t b top (length (lent .loops))) step in
-            let on : x ≡ wentOn t (stepState (stepRow (it (t .row)) (t .state)) (t .state)) = q ∙ ap (λ (b : Turned). b .taking) is ∙ turn-on t (it (t .row)) (t .state) top (length (lent .loops)) in
-            let loops : (lent′ .loops) ≡ loopsBy (stepRow (it (t .row)) (t .state)) (t .state) (lent .loops) = w ∙ ap (λ (b : Turned). set (lent .loops) (b .slot) (b .rec)) is ∙ turn-loops t (stepRow (it (t .row)) (t .state)) top (lent .loops) in
-            let u : memOf (x .state) lent′ ≡ next (t .row) (it (t .row)) M = mem-eq (ap (λ (b : Taking). b .state) on) (rw v at (s .parcels)) (rw v at (s .labels)) (rw v at (s .jumps)) loops in
-            let few : t .row < rowsTaken rs = subst (λ (b : ℕ). t .row < b) (sym (taken-all (a .rows-formed))) h in
-            record {
-              rows-formed = a .rows-formed;
-              unstopped = ap (λ (b : Taking). b .verdict) on;
-              going = subst (λ (b : ℕ). Going C N m₀ (rowsTaken rs) b (memOf (x .state) lent′)) (sym (ap (λ (b : Taking). b .row) on)) (going-next C N m₀ (a .going) few v u);
-              good = subst (λ (m : Mem). GoodFor ns r m) (sym u) (keep ns r (t .row) (it (t .row)) M (a .good) (row-fine rs ns (t .row)) v);
-            }
+      module _ (x : Taking) (lent′ : Lent) (s : Turnt (kernelOf rs ns) r t lent x lent′) where
+        abbrev top : OpenLoop
+        top = topOf (t .state) (lent .loops)
 
-        -- a row, refused
-        row-refused : Rowing t lent → t .row < rowsIn rs → (y : Turned) (z : Step) → Stepped ns r (it (t .row)) (t .row) (t .state) (lent .parcels) (lent .labels) (lent .jumps) (topOf (t .state) (lent .loops)) z (lent′ .parcels) (lent′ .labels) (lent′ .jumps) → y ≡ turnedOf t z (topOf (t .state) (lent .loops)) (length (lent .loops)) → x ≡ y .taking
-            → (lent′ .loops) ≡ set (lent .loops) (y .slot) (y .rec) → (why : Refusal) → check ns r (it (t .row)) M ≡ Refused why → Closing x lent′
-        row-refused a h y z s e q w why v =
-            let top = topOf (t .state) (lent .loops) in
-            let step : z ≡ Stop why = rw v at (s .answer) in
-            let is : y ≡ turnedOf t (Stop why) top (length (lent .loops)) = e ∙ ap (λ (b : Step). turnedOf t b top (length (lent .loops))) step in
-            let on : x ≡ record { state = t .state; row = t .row; verdict = Refused why } = q ∙ ap (λ (b : Turned). b .taking) is in
-            let loops : (lent′ .loops) ≡ (lent .loops) = w ∙ ap (λ (b : Turned). set (lent .loops) (b .slot) (b .rec)) is ∙ turn-loops t (Stop why) top (lent .loops) in
-            let u : memOf (x .state) lent′ ≡ M = mem-eq (ap (λ (b : Taking). b .state) on) (rw v at (s .parcels)) (rw v at (s .labels)) (rw v at (s .jumps)) loops in
-            let few : t .row < rowsTaken rs = subst (λ (b : ℕ). t .row < b) (sym (taken-all (a .rows-formed))) h in
-            let c = going-stop C N m₀ (a .going) few v u in
-            record {
-              why = why;
-              stopped = ap (λ (b : Taking). b .verdict) on;
-              verdict = final (a .rows-formed) (Refused why) (memOf (x .state) lent′) (c .outcome) (came-mem c);
-              rest = ap closed (came-mem c);
-              good = subst (λ (m : Mem). GoodFor ns r m) (sym u) (a .good);
-            }
+        abbrev slots : ℕ
+        slots = length (lent .loops)
 
-        by-row : Rowing t lent → t .row < rowsIn rs → (y : Turned) (z : Step) → Stepped ns r (it (t .row)) (t .row) (t .state) (lent .parcels) (lent .labels) (lent .jumps) (topOf (t .state) (lent .loops)) z (lent′ .parcels) (lent′ .labels) (lent′ .jumps) → y ≡ turnedOf t z (topOf (t .state) (lent .loops)) (length (lent .loops)) → x ≡ y .taking
-            → (lent′ .loops) ≡ set (lent .loops) (y .slot) (y .rec) → (v : Verdict) → check ns r (it (t .row)) M ≡ v → Along x lent′
-        by-row a h y z s e q w Good v = inl (row-good a h y z s e q w v)
-        by-row a h y z s e q w (Refused why) v = inr (row-refused a h y z s e q w why v)
+        module _ (o : RowTurn (kernelOf rs ns) r t (withLoops lent []) (topOf (t .state) (lent .loops)) (length (lent .loops)) (s .turn) (withLoops lent′ [])) where
+          -- the turn and the loop table, by the step that the row made
+          as-turned : {z : Step} → o .step ≡ z → s .turn ≡ turnedOf t z top slots
+          as-turned e = o .answer ∙ ap (λ (b : Step). turnedOf t b top slots) e
+
+          as-looped : {z : Step} → o .step ≡ z → lent′ .loops ≡ loopsBy z (t .state) (lent .loops)
+          as-looped {z} e = s .loops ∙ ap (λ (b : Turned). set (lent .loops) (b .slot) (b .rec)) (as-turned e) ∙ turn-loops t z top (lent .loops)
+
+          module _ (a : Rowing t lent) (h : t .row < rowsIn rs) where
+            few : t .row < rowsTaken rs
+            few = subst (λ (b : ℕ). t .row < b) (sym (taken-all (a .rows-formed))) h
+
+            -- a row, taken in
+            row-good : check ns r (it (t .row)) M ≡ Good → Rowing x lent′
+            row-good v =
+                let d = o .stepped in
+                let step : o .step ≡ stepRow (it (t .row)) (t .state) = rw v at (d .answer) in
+                let on : x ≡ wentOn t (stepState (stepRow (it (t .row)) (t .state)) (t .state)) = s .taking ∙ ap (λ (b : Turned). b .taking) (as-turned step) ∙ turn-on t (it (t .row)) (t .state) top slots in
+                let u : memOf (x .state) lent′ ≡ next (t .row) (it (t .row)) M = mem-eq (ap (λ (b : Taking). b .state) on) (rw v at (d .parcels)) (rw v at (d .labels)) (rw v at (d .jumps)) (as-looped step) in
+                record {
+                  rows-formed = a .rows-formed;
+                  unstopped = ap (λ (b : Taking). b .verdict) on;
+                  going = subst (λ (b : ℕ). Going C N m₀ (rowsTaken rs) b (memOf (x .state) lent′)) (sym (ap (λ (b : Taking). b .row) on)) (going-next C N m₀ (a .going) few v u);
+                  good = subst (λ (m : Mem). GoodFor ns r m) (sym u) (keep ns r (t .row) (it (t .row)) M (a .good) (row-fine rs ns (t .row)) v);
+                }
+
+            -- a row, refused
+            row-refused : (why : Refusal) → check ns r (it (t .row)) M ≡ Refused why → Closing x lent′
+            row-refused why v =
+                let d = o .stepped in
+                let step : o .step ≡ Stop why = rw v at (d .answer) in
+                let on : x ≡ record { state = t .state; row = t .row; verdict = Refused why } = s .taking ∙ ap (λ (b : Turned). b .taking) (as-turned step) in
+                let u : memOf (x .state) lent′ ≡ M = mem-eq (ap (λ (b : Taking). b .state) on) (rw v at (d .parcels)) (rw v at (d .labels)) (rw v at (d .jumps)) (as-looped step) in
+                let c = going-stop C N m₀ (a .going) few v u in
+                record {
+                  why = why;
+                  stopped = ap (λ (b : Taking). b .verdict) on;
+                  verdict = final (a .rows-formed) (Refused why) (memOf (x .state) lent′) (c .outcome) (came-mem c);
+                  rest = ap closed (came-mem c);
+                  good = subst (λ (m : Mem). GoodFor ns r m) (sym u) (a .good);
+                }
+
+            by-row : (v : Verdict) → check ns r (it (t .row)) M ≡ v → Along x lent′
+            by-row Good v = inl (row-good v)
+            by-row (Refused why) v = inr (row-refused why v)
 
         -- a loop closed: the memory, and what is known of it
         record Popped : Type 0 where
           is : memOf (x .state) lent′ ≡ memOf (level (t .state .depth - 1) (t .state)) (popped (t .state) lent)
           says : x .verdict ≡ Refused (lateOf (t .verdict))
 
-        pops : (y : Turned) → LateTurn t (lent .parcels) (lent .labels) (lent .jumps) y (lent′ .parcels) (lent′ .labels) (lent′ .jumps) → x ≡ y .taking → (lent′ .loops) ≡ set (lent .loops) (y .slot) (y .rec) → Popped
-        pops y s q w =
-            let on = q ∙ ap (λ (b : Turned). b .taking) (s .answer) in
+        pops : LateTurn t (withLoops lent []) (s .turn) (withLoops lent′ []) → Popped
+        pops o =
+            let on = s .taking ∙ ap (λ (b : Turned). b .taking) (o .answer) in
             record {
-              is = mem-eq (ap (λ (b : Taking). b .state) on) (s .parcels) (s .labels) (s .jumps) (w ∙ ap (λ (b : Turned). set (lent .loops) (b .slot) (b .rec)) (s .answer));
+              is = ap₂ memOf (ap (λ (b : Taking). b .state) on) (ap₂ withLoops (o .same) (s .loops ∙ ap (λ (b : Turned). set (lent .loops) (b .slot) (b .rec)) (o .answer)));
               says = ap (λ (b : Taking). b .verdict) on;
             }
 
-        onwards : Along t lent → Turnt rs ns r t lent x lent′ → Along x lent′
-        onwards a s = go a (s .onward)
+        onwards : Along t lent → Along x lent′
+        onwards a = go a (s .onward)
           where
-            go : Along t lent → Onward rs ns r t (lent .parcels) (lent .labels) (lent .jumps) (topOf (t .state) (lent .loops)) (length (lent .loops)) (s .turn) (lent′ .parcels) (lent′ .labels) (lent′ .jumps) → Along x lent′
-            go (inl a) (inl (e, o)) = by-row a (row-next (t .verdict) (t .row) (rowsIn rs) e .1) (s .turn) (o .step) (o .stepped) (o .answer) (s .taking) (s .loops) (check ns r (it (t .row)) M) refl
+            go : Along t lent → Onward (kernelOf rs ns) r t (withLoops lent []) (topOf (t .state) (lent .loops)) (length (lent .loops)) (s .turn) (withLoops lent′ []) → Along x lent′
+            go (inl a) (inl (e, o)) = by-row o a (row-next (t .verdict) (t .row) (rowsIn rs) e .1) (check ns r (it (t .row)) M) refl
             go (inl a) (inr (e, o)) =
                 let some = some-open more e in
-                let d = pops (s .turn) o (s .taking) (s .loops) in
+                let d = pops o in
                 let last = row-last (t .row) (rowsIn rs) (rw (a .unstopped) at e) in
                 let c = going-end C N m₀ (a .going) (subst (λ (b : ℕ). b ≤ t .row) (sym (taken-all (a .rows-formed))) last) in
                 inr
@@ -197,7 +206,7 @@ module _ (rs ns : List ℕ) (r : Rooms) (lent₀ : Lent) where
             go (inr a) (inl (e, o)) = absurd (refused-good (a .why) (sym (a .stopped) ∙ row-next (t .verdict) (t .row) (rowsIn rs) e .0))
             go (inr a) (inr (e, o)) =
                 let some = some-open more e in
-                let d = pops (s .turn) o (s .taking) (s .loops) in
+                let d = pops o in
                 inr
                 (record {
                   why = a .why;
@@ -208,21 +217,20 @@ module _ (rs ns : List ℕ) (r : Rooms) (lent₀ : Lent) where
                 })
 
         -- ---- each turn leaves less to do
-        by-step : t .row < rowsIn rs → t .verdict ≡ Good → (v : Verdict) (top : OpenLoop) → x ≡ turnedOf t (stepBy v (stepRow (it (t .row)) (t .state))) top (length (lent .loops)) .taking → left rs x < left rs t
-        by-step h g Good top e =
-            let on : x ≡ wentOn t (stepState (stepRow (it (t .row)) (t .state)) (t .state)) = e ∙ turn-on t (it (t .row)) (t .state) top (length (lent .loops)) in
+        by-step : t .row < rowsIn rs → t .verdict ≡ Good → (v : Verdict) → x ≡ turnedOf t (stepBy v (stepRow (it (t .row)) (t .state))) top slots .taking → left rs x < left rs t
+        by-step h g Good e =
+            let on : x ≡ wentOn t (stepState (stepRow (it (t .row)) (t .state)) (t .state)) = e ∙ turn-on t (it (t .row)) (t .state) top slots in
             let d = deeper-by-one (it (t .row)) (t .state) in
             rw (on, g) (omega arith)
-        by-step h g (Refused why) top e = rw (e, g) (omega arith)
+        by-step h g (Refused why) e = rw (e, g) (omega arith)
 
-        less : Along t lent → Turnt rs ns r t lent x lent′ → left rs x < left rs t
-        less a s = go (s .onward)
+        less : left rs x < left rs t
+        less = go (s .onward)
           where
-            go : Onward rs ns r t (lent .parcels) (lent .labels) (lent .jumps) (topOf (t .state) (lent .loops)) (length (lent .loops)) (s .turn) (lent′ .parcels) (lent′ .labels) (lent′ .jumps) → left rs x < left rs t
+            go : Onward (kernelOf rs ns) r t (withLoops lent []) (topOf (t .state) (lent .loops)) (length (lent .loops)) (s .turn) (withLoops lent′ []) → left rs x < left rs t
             go (inl (e, o)) =
                 let h = row-next (t .verdict) (t .row) (rowsIn rs) e in
-                by-step (h .1) (h .0) (check ns r (it (t .row)) M) (topOf (t .state) (lent .loops))
-                (s .taking ∙ ap (λ (b : Turned). b .taking) (o .answer) ∙ ap (λ (b : Step). turnedOf t b (topOf (t .state) (lent .loops)) (length (lent .loops)) .taking) (o .stepped .answer))
+                by-step (h .1) (h .0) (check ns r (it (t .row)) M) (s .taking ∙ ap (λ (b : Turned). b .taking) (as-turned o (o .stepped .answer)))
             go (inr (e, o)) =
                 let some = some-open more e in
                 rw (s .taking ∙ ap (λ (b : Turned). b .taking) (o .answer)) (omega arith)
@@ -252,7 +260,7 @@ module _ (rs ns : List ℕ) (r : Rooms) (lent₀ : Lent) where
           }
       ended (inr a) = record { verdict = a .stopped ∙ a .verdict; mem = sym (closed-none (t .state) lent none-open) ∙ a .rest; good = a .good }
 
-  begun : Rooming r (length (lent₀ .parcels)) (length (lent₀ .labels)) (length (lent₀ .jumps)) (length (lent₀ .loops)) → Along (startOf rs) lent₀
+  begun : RoomingIn r lent₀ → Along (startOf rs) lent₀
   begun rooms = go (wellFormed (length rs)) refl
     where
       go : (b : Bool) → wellFormed (length rs) ≡ b → Along (startOf rs) lent₀
@@ -264,24 +272,24 @@ module _ (rs ns : List ℕ) (r : Rooms) (lent₀ : Lent) where
             why = RowSlice;
             stopped = rw w;
             verdict = rw w;
-            rest = ap closed (ap (λ (b : Bool). memAt it m₀ (scanEnd (rowChk ns r it (cond b (rowsIn rs) 0) m₀) (rowNext ns r it (cond b (rowsIn rs) 0) m₀) m₀ (cond b (rowsIn rs) 0) 0)) (sym w));
+            rest = ap closed (ap (λ (b : Bool). memAt it m₀ (scanEnd C N m₀ (cond b (rowsIn rs) 0) 0)) (sym w));
             good = good-zero ns r lent₀ rooms;
           })
 
 -- ---- the same, as the walk of the turns cites it
 module _ {rs ns : List ℕ} {r : Rooms} {lent₀ : Lent} where
-  pub along-start : Rooming r (length (lent₀ .parcels)) (length (lent₀ .labels)) (length (lent₀ .jumps)) (length (lent₀ .loops)) → Along rs ns r lent₀ (startOf rs) lent₀
+  pub along-start : RoomingIn r lent₀ → Along rs ns r lent₀ (startOf rs) lent₀
   along-start = begun rs ns r lent₀
 
   module _ {t : Taking} {lent : Lent} (a : Along rs ns r lent₀ t lent) where
-    pub along-ready : moreOf rs t ≡ true → Ready rs ns r t lent
+    pub along-ready : moreOf rs t ≡ true → Ready (kernelOf rs ns) r t lent
     along-ready e = ready rs ns r lent₀ t lent e a
 
     pub along-end : moreOf rs t ≡ false → Took rs ns r lent₀ t lent
     along-end e = ended rs ns r lent₀ t lent e a
 
-    pub along-next : {x : Taking} {lent′ : Lent} → moreOf rs t ≡ true → Turnt rs ns r t lent x lent′ → Along rs ns r lent₀ x lent′
-    along-next {x} {lent′} e s = onwards rs ns r lent₀ t lent e x lent′ a s
+    pub along-next : {x : Taking} {lent′ : Lent} → moreOf rs t ≡ true → Turnt (kernelOf rs ns) r t lent x lent′ → Along rs ns r lent₀ x lent′
+    along-next {x} {lent′} e s = onwards rs ns r lent₀ t lent e x lent′ s a
 
-    pub left-less : {x : Taking} {lent′ : Lent} → moreOf rs t ≡ true → Turnt rs ns r t lent x lent′ → left rs x < left rs t
-    left-less {x} {lent′} e s = less rs ns r lent₀ t lent e x lent′ a s
+    pub left-less : {x : Taking} {lent′ : Lent} → moreOf rs t ≡ true → Turnt (kernelOf rs ns) r t lent x lent′ → left rs x < left rs t
+    left-less {x} {lent′} e s = less rs ns r lent₀ t lent e x lent′ s

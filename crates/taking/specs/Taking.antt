@@ -2,7 +2,7 @@
 use mathlib.Core.Path.{_≡_}
 use mathlib.Core.Bool.{Bool, true, false, cond}
 use mathlib.Core.Logic.{_⊎_}
-use mathlib.Core.List.{List}
+use mathlib.Core.List.{List, []}
 use Prim.Native.Nat.{ℕ, _+_, _-_, _≤_}
 use lib.ListN.{length, set}
 use lib.Dec.{ltb}
@@ -13,9 +13,9 @@ use Rattle.refusals.specs.declared.Verdict.the-variants.{Good, Refused}
 use Rattle.rows.specs.Rows.{wellFormed, mostRows}
 use Rattle.places.specs.declared.OpenLoop.{OpenLoop}
 use Rattle.places.specs.declared.Rooms.{Rooms}
-use Rattle.places.specs.Items.{rowAt, rowsIn}
+use Rattle.places.specs.Items.{Kernel, kernel, rowAt, rowsIn}
 use Rattle.refusals.specs.Order.{orElse}
-use Rattle.places.specs.Left.{Lent, zeroLoop}
+use Rattle.places.specs.Left.{Lent, zeroLoop, withLoops}
 use Rattle.machine.specs.declared.State.{State}
 use Rattle.machine.specs.declared.Step.{Step}
 use Rattle.machine.specs.declared.Step.the-variants.{On, Opened, Closed, Stop}
@@ -60,48 +60,49 @@ lateOf (Refused r) = r
 abbrev pub closedOf : Taking → Refusal → Turned
 closedOf t why = record { taking = record { state = level (t .state .depth - 1) (t .state); row = t .row; verdict = Refused why }; slot = t .state .depth - 1; rec = zeroLoop }
 
--- at a row: its step; past the rows: a loop closed, nothing else written
-pub record RowTurn (rs ns : List ℕ) (r : Rooms) (t : Taking) (p l j : List ℕ) (top : OpenLoop) (lent : ℕ) (y : Turned) (p′ l′ j′ : List ℕ) : Type 0 where
+-- at a row: its step; past the rows: a loop closed, nothing else written. `lent` and `left` are the buffers but for the loop table
+pub record RowTurn (k : Kernel) (r : Rooms) (t : Taking) (lent : Lent) (top : OpenLoop) (slots : ℕ) (y : Turned) (left : Lent) : Type 0 where
   pub step : Step
-  pub stepped : Stepped ns r (rowAt rs ns (t .row)) (t .row) (t .state) p l j top step p′ l′ j′
-  pub answer : y ≡ turnedOf t step top lent
+  pub stepped : Stepped (k .names) r (k .it (t .row)) (t .row) (t .state) lent top step left
+  pub answer : y ≡ turnedOf t step top slots
 
-pub record LateTurn (t : Taking) (p l j : List ℕ) (y : Turned) (p′ l′ j′ : List ℕ) : Type 0 where
+pub record LateTurn (t : Taking) (lent : Lent) (y : Turned) (left : Lent) : Type 0 where
   pub answer : y ≡ closedOf t (lateOf (t .verdict))
-  pub parcels : p′ ≡ p
-  pub labels : l′ ≡ l
-  pub jumps : j′ ≡ j
+  pub same : left ≡ lent
 
-pub record Stepping (rs ns : List ℕ) (r : Rooms) (t : Taking) (p l j : List ℕ) (top : OpenLoop) (lent : ℕ) : Type 0 where
-  pub fine : Fine ns r (t .state) p l j top
-  pub few : t .verdict ≡ Good → rowsIn rs ≤ mostRows
+pub record Stepping (k : Kernel) (r : Rooms) (t : Taking) (lent : Lent) (top : OpenLoop) : Type 0 where
+  pub fine : Fine (k .names) r (t .state) lent top
+  pub few : t .verdict ≡ Good → k .n ≤ mostRows
 
-abbrev pub Next : List ℕ → Taking → Bool → Type 0
-Next rs t b = goingOn (t .verdict) (ltb (t .row) (rowsIn rs)) ≡ b
+abbrev pub Next : Kernel → Taking → Bool → Type 0
+Next k t b = goingOn (t .verdict) (ltb (t .row) (k .n)) ≡ b
 
-abbrev pub Onward : List ℕ → List ℕ → Rooms → Taking → List ℕ → List ℕ → List ℕ → OpenLoop → ℕ → Turned → List ℕ → List ℕ → List ℕ → Type 0
-Onward rs ns r t p l j top lent y p′ l′ j′ = (Next rs t true × RowTurn rs ns r t p l j top lent y p′ l′ j′) ⊎ (Next rs t false × LateTurn t p l j y p′ l′ j′)
+abbrev pub Onward : Kernel → Rooms → Taking → Lent → OpenLoop → ℕ → Turned → Lent → Type 0
+Onward k r t lent top slots y left = (Next k t true × RowTurn k r t lent top slots y left) ⊎ (Next k t false × LateTurn t lent y left)
 
 -- ---- a turn over the loop table
-pub record Ready (rs ns : List ℕ) (r : Rooms) (t : Taking) (lent : Lent) : Type 0 where
-  pub good : GoodFor ns r (memOf (t .state) lent)
-  pub few : t .verdict ≡ Good → rowsIn rs ≤ mostRows
+pub record Ready (k : Kernel) (r : Rooms) (t : Taking) (lent : Lent) : Type 0 where
+  pub good : GoodFor (k .names) r (memOf (t .state) lent)
+  pub few : t .verdict ≡ Good → k .n ≤ mostRows
 
-pub record Turnt (rs ns : List ℕ) (r : Rooms) (t : Taking) (lent : Lent) (x : Taking) (lent′ : Lent) : Type 0 where
+pub record Turnt (k : Kernel) (r : Rooms) (t : Taking) (lent : Lent) (x : Taking) (left : Lent) : Type 0 where
   pub turn : Turned
-  pub onward : Onward rs ns r t (lent .parcels) (lent .labels) (lent .jumps) (topOf (t .state) (lent .loops)) (length (lent .loops)) turn (lent′ .parcels) (lent′ .labels) (lent′ .jumps)
+  pub onward : Onward k r t (withLoops lent []) (topOf (t .state) (lent .loops)) (length (lent .loops)) turn (withLoops left [])
   pub taking : x ≡ turn .taking
-  pub loops : lent′ .loops ≡ set (lent .loops) (turn .slot) (turn .rec)
+  pub loops : left .loops ≡ set (lent .loops) (turn .slot) (turn .rec)
 
--- ---- all turns: the verdict on the rows, and the memory with every loop closed
+-- ---- all turns: the verdict on the rows that are taken in, and the memory with every loop closed
+abbrev pub takenOf : List ℕ → List ℕ → Kernel
+takenOf rs ns = kernel ns (rowAt rs ns) (rowsTaken rs)
+
 module _ (rs ns : List ℕ) (r : Rooms) (lent : Lent) where
   abbrev pub tookVerdict : Verdict
-  tookVerdict = rowsVerdict ns r (rowAt rs ns) (rowsTaken rs) (memOf zeroState lent)
+  tookVerdict = rowsVerdict (takenOf rs ns) r (memOf zeroState lent)
 
   abbrev pub tookMem : Mem
-  tookMem = rowsMem ns r (rowAt rs ns) (rowsTaken rs) (memOf zeroState lent)
+  tookMem = rowsMem (takenOf rs ns) r (memOf zeroState lent)
 
-pub record Took (rs ns : List ℕ) (r : Rooms) (lent : Lent) (x : Taking) (lent′ : Lent) : Type 0 where
+pub record Took (rs ns : List ℕ) (r : Rooms) (lent : Lent) (x : Taking) (left : Lent) : Type 0 where
   pub verdict : x .verdict ≡ orElse (formed rs) (closeVerdict (tookVerdict rs ns r lent) (tookMem rs ns r lent))
-  pub mem : memOf (x .state) lent′ ≡ closed (tookMem rs ns r lent)
-  pub good : GoodFor ns r (memOf (x .state) lent′)
+  pub mem : memOf (x .state) left ≡ closed (tookMem rs ns r lent)
+  pub good : GoodFor ns r (memOf (x .state) left)

@@ -1,13 +1,14 @@
 // The rows in turn over the lent buffers: a turn for each row, then one for each loop that is left open. The functions that hold
 // the lent loop records only call; what thinks takes a record by value.
 ghost use mathlib.Core.Path.{_≡_};
+ghost use mathlib.Core.List.{[]};
 ghost use Prim.Native.Nat.{_-_, _<_};
-ghost use lib.ListN.{length, getD, set};
 ghost use lib.Dec.{ltb};
 ghost use Rattle.rows.specs.Rows.{mostRows};
-ghost use Rattle.places.specs.Items.{rowsIn};
-ghost use Rattle.places.specs.Left.{lentOf, zeroLoop};
-ghost use Rattle.machine.specs.Machine.{Fine, Rooming};
+ghost use Rattle.places.specs.Items.{kernelOf, rowsIn};
+ghost use Rattle.places.specs.Left.{lentOf};
+ghost use Rattle.checks.specs.Rooming.{RoomingIn};
+ghost use Rattle.machine.specs.Machine.{Fine};
 ghost use Rattle.taking.specs.Taking.{goingOn, startOf, moreOf, wentOn, lateOf, turnedOf, closedOf, RowTurn, Stepping, Onward, Ready, Turnt, Took};
 use machine::START;
 use machine::State;
@@ -171,8 +172,8 @@ fn at_row(
     top: OpenLoop,
     lent: usize,
 ) -> Turned
-    requires { ⌜ (Fine (now names) rooms (t .state) (now parcels) (now labels) (now jumps) top) × (t .row < rowsIn (now rows)) × (t .row < mostRows) ⌝ }
-    ensures { λ r. ⌜ RowTurn (now (rows .entry)) (now (names .entry)) rooms t (now (parcels .entry)) (now (labels .entry)) (now (jumps .entry)) top lent r (now (parcels .exit)) (now (labels .exit)) (now (jumps .exit)) ⌝ }
+    requires { ⌜ (Fine (now names) rooms (t .state) (lentOf (now parcels) (now labels) (now jumps) []) top) × (t .row < rowsIn (now rows)) × (t .row < mostRows) ⌝ }
+    ensures { λ r. ⌜ RowTurn (kernelOf (now (rows .entry)) (now (names .entry))) rooms t (lentOf (now (parcels .entry)) (now (labels .entry)) (now (jumps .entry)) []) top lent r (lentOf (now (parcels .exit)) (now (labels .exit)) (now (jumps .exit)) []) ⌝ }
 {
     let at = t.row;
     let state = t.state;
@@ -193,33 +194,13 @@ fn onward(
     top: OpenLoop,
     lent: usize,
 ) -> Turned
-    requires { ⌜ Stepping (now rows) (now names) rooms t (now parcels) (now labels) (now jumps) top lent ⌝ }
-    ensures { λ r. ⌜ Onward (now (rows .entry)) (now (names .entry)) rooms t (now (parcels .entry)) (now (labels .entry)) (now (jumps .entry)) top lent r (now (parcels .exit)) (now (labels .exit)) (now (jumps .exit)) ⌝ }
+    requires { ⌜ Stepping (kernelOf (now rows) (now names)) rooms t (lentOf (now parcels) (now labels) (now jumps) []) top ⌝ }
+    ensures { λ r. ⌜ Onward (kernelOf (now (rows .entry)) (now (names .entry))) rooms t (lentOf (now (parcels .entry)) (now (labels .entry)) (now (jumps .entry)) []) top lent r (lentOf (now (parcels .exit)) (now (labels .exit)) (now (jumps .exit)) []) ⌝ }
 {
     if going(rows, t) {
         return at_row(rows, names, rooms, parcels, labels, jumps, t, top, lent);
     }
     past_rows(t)
-}
-
-// The record in a slot of the table; zero past its end.
-fn top(loops: &[OpenLoop], at: usize) -> OpenLoop
-    ensures { λ r. ⌜ r ≡ getD (now (loops .entry)) at zeroLoop ⌝ }
-{
-    if at < loops.len() {
-        loops[at]
-    } else {
-        ZERO_LOOP
-    }
-}
-
-// A record stands in a slot of the table, if it has that slot.
-fn put_if(loops: &mut [OpenLoop], at: usize, rec: OpenLoop)
-    ensures { λ _. ⌜ now (loops .exit) ≡ set (now (loops .entry)) at rec ⌝ }
-{
-    if at < loops.len() {
-        loops[at] = rec;
-    }
 }
 
 // A turn over the table: its innermost record is read, and the turn's record left in its slot.
@@ -233,11 +214,11 @@ fn turn(
     loops: &mut [OpenLoop],
     t: Taking,
 ) -> Taking
-    requires { ⌜ Ready (now rows) (now names) rooms t (lentOf (now parcels) (now labels) (now jumps) (now loops)) ⌝ }
-    ensures { λ r. ⌜ Turnt (now (rows .entry)) (now (names .entry)) rooms t (lentOf (now (parcels .entry)) (now (labels .entry)) (now (jumps .entry)) (now (loops .entry))) r (lentOf (now (parcels .exit)) (now (labels .exit)) (now (jumps .exit)) (now (loops .exit))) ⌝ }
+    requires { ⌜ Ready (kernelOf (now rows) (now names)) rooms t (lentOf (now parcels) (now labels) (now jumps) (now loops)) ⌝ }
+    ensures { λ r. ⌜ Turnt (kernelOf (now (rows .entry)) (now (names .entry))) rooms t (lentOf (now (parcels .entry)) (now (labels .entry)) (now (jumps .entry)) (now (loops .entry))) r (lentOf (now (parcels .exit)) (now (labels .exit)) (now (jumps .exit)) (now (loops .exit))) ⌝ }
 {
     let slot = innermost(t);
-    let found = top(&*loops, slot);
+    let found = tables::loops::top(&*loops, slot);
     let out = onward(
         rows,
         names,
@@ -249,7 +230,7 @@ fn turn(
         found,
         loops.len(),
     );
-    put_if(&mut *loops, out.slot, out.rec);
+    tables::loops::put_if(&mut *loops, out.slot, out.rec);
     out.taking
 }
 
@@ -263,7 +244,7 @@ pub fn take_rows(
     jumps: &mut [u32],
     loops: &mut [OpenLoop],
 ) -> Taking
-    requires { ⌜ Rooming rooms (length (now parcels)) (length (now labels)) (length (now jumps)) (length (now loops)) ⌝ }
+    requires { ⌜ RoomingIn rooms (lentOf (now parcels) (now labels) (now jumps) (now loops)) ⌝ }
     ensures { λ r. ⌜ Took (now (rows .entry)) (now (names .entry)) rooms (lentOf (now (parcels .entry)) (now (labels .entry)) (now (jumps .entry)) (now (loops .entry))) r (lentOf (now (parcels .exit)) (now (labels .exit)) (now (jumps .exit)) (now (loops .exit))) ⌝ }
 {
     let mut t = begun(rows);

@@ -73,7 +73,7 @@ fn check(case: &Case, tally: &mut Tally) -> Result<(), String> {
         tally.asked += 1;
         let names = &case.list.names;
         let parcels = buffers.parcels.lent();
-        let difference = judge::difference(&program, names, &told, parcels);
+        let difference = judge::difference(&program.parcels(), names, &told, parcels);
         difference.map_or(Ok(()), |why| Err(format!("{told:?}, and {why}")))?;
         counts(case, &program)?;
         to_bytes(&told, parcels, &program)?;

@@ -30,13 +30,15 @@ use Rattle.walks.proofs.Walk.{WalkAt, whole-of, field-of, stores, lands-in, fre
 use Rattle.walks.proofs.Parts.{number-value, fits, made, starts, calls, finishes}
 use Rattle.walks.proofs.Lent.{slice, under, ref-of, slice-of, copied, lends, back, gave}
 use Rattle.places.specs.declared.OpenLoop.{OpenLoop}
-use Rattle.places.specs.Items.{roomsOf}
+use Rattle.places.specs.Items.{kernelOf, roomsOf}
 use Rattle.places.specs.Left.{lentOf}
 use Rattle.places.proofs.OpenLoop as loop
+use Rattle.tables.proofs.Values.{rooms-value, answer-value}
 use Rattle.taking.specs.Taking.{Took}
-use Rattle.taking.proofs.Values.{rooms-value, taking-value, answer-value}
+use Rattle.taking.proofs.Values.{taking-value}
 use Rattle.build.specs.Finish.{Finished}
-use Rattle.build.proofs.Whole.{rooming-of, took-finishing, built-is}
+use Rattle.checks.proofs.Rooming.{rooming-of}
+use Rattle.build.proofs.Whole.{took-finishing, built-is}
 use Rattle.places.proofs.Rooms.of as Rooms-of
 use Rattle.places.proofs.Rooms.of.Symbol as Rooms-of-def
 use Rattle.places.proofs.Rooms.of.Symbol.{name as #places·Rooms·of}
@@ -92,7 +94,7 @@ module _ {M : Type 1} (𝓤 : URA M) (H : Heap 𝓤) (A : Atoms 𝓤) (W : Given
       -- `finish`
       made ! taking-value r₂ is₂ $ move ! (2 ∷ 4 ∷ 6 ∷ 9 ∷ 10 ∷ 0 ∷ 3 ∷ 5 ∷ 7 ∷ 14 ∷ 15 ∷ []) $
       calls W ! finish.ended (finish.clauses 𝓤 H A mem run) (((κ₀, (κ₁, (κ₂, (κ₃, (κ₄, tt))))), (q₀, (q₁, (q₂, (q₃, (q₄, tt))))), tt, (rows, (names, (at-last parcels (ws₂ .1 .1 .1 .0), (at-last labels (ws₂ .1 .1 .1 .1 .0), (at-last jumps (ws₂ .1 .1 .1 .1 .1 .0), (r₂, tt)))))), (slice rows ∷ [], (slice names ∷ [], (slice parcels ∷ [], (slice labels ∷ [], (slice jumps ∷ [], (taking-value .val r₂ ∷ [], tt))))))), tt) answer-value
-      (λ r ws. Finished (rows .now) (names .now) r₂ (ws₂ .1 .1 .1 .0) (ws₂ .1 .1 .1 .1 .0) (ws₂ .1 .1 .1 .1 .1 .0) r (ws .1 .1 .0) (ws .1 .1 .1 .0) (ws .1 .1 .1 .1 .0)) (λ r ws. id⊢ 𝓤 _) fm known₃ (factI 𝓤 _ (emp 𝓤) (took-finishing e₁ e₂)) (and-then ! (whole-of ! 60 refl) (and-then ! (whole-of ! 58 refl) (and-then ! (whole-of ! 18 refl) (and-then ! (whole-of ! 14 refl) (and-then ! (whole-of ! 10 refl) (and-then ! (whole-of ! 46 refl) (no-more !))))))) (λ r₃ ws₃ is₃ e₃.
+      (λ r ws. Finished (kernelOf (rows .now) (names .now)) r₂ (lentOf (ws₂ .1 .1 .1 .0) (ws₂ .1 .1 .1 .1 .0) (ws₂ .1 .1 .1 .1 .1 .0) []) r (lentOf (ws .1 .1 .0) (ws .1 .1 .1 .0) (ws .1 .1 .1 .1 .0) [])) (λ r ws. id⊢ 𝓤 _) fm known₃ (factI 𝓤 _ (emp 𝓤) (took-finishing e₁ e₂)) (and-then ! (whole-of ! 60 refl) (and-then ! (whole-of ! 58 refl) (and-then ! (whole-of ! 18 refl) (and-then ! (whole-of ! 14 refl) (and-then ! (whole-of ! 10 refl) (and-then ! (whole-of ! 46 refl) (no-more !))))))) (λ r₃ ws₃ is₃ e₃.
       lands-in ! 72 refl (fits W answer-value r₃ is₃ .0) $ move ! (8 ∷ []) $ gave ! u16 (parcels .name) (ws₂ .1 .1 .1 .0) (ws₃ .1 .1 .0) (λ len₃-parcels. move ! (8 ∷ []) $
       gave ! u32 (labels .name) (ws₂ .1 .1 .1 .1 .0) (ws₃ .1 .1 .1 .0) (λ len₃-labels. move ! (8 ∷ []) $ gave ! u32 (jumps .name) (ws₂ .1 .1 .1 .1 .1 .0) (ws₃ .1 .1 .1 .1 .0) (λ len₃-jumps. returns ! (look ! 72 refl) $
       frees-at ! 72 refl refl $ frees-at ! 70 refl refl $ frees-at ! 68 refl refl $ frees-at ! 66 refl refl $ frees-at ! 64 refl refl $ frees-at ! 62 refl refl $ frees-at ! 60 refl refl $ frees-at ! 58 refl refl $ frees-at ! 56 refl refl $ frees-at ! 54 refl refl $ frees-at ! 52 refl refl $ frees-at ! 50 refl refl $ frees-at ! 48 refl refl $ frees-at ! 46 refl refl $ frees-at ! 44 refl refl $ frees-at ! 42 refl refl $ frees-at ! 40 refl refl $ frees-at ! 38 refl refl $ frees-at ! 36 refl refl $ frees-at ! 34 refl refl $ frees-at ! 32 refl refl $ frees-at ! 30 refl refl $ frees-at ! 28 refl refl $ frees-at ! 26 refl refl $ frees-at ! 24 refl refl $ frees-at ! 22 refl refl $ frees-at ! 20 refl refl $ free0 ! $

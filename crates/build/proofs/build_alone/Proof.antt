@@ -35,7 +35,8 @@ use Rattle.places.specs.declared.OpenLoop.{OpenLoop}
 use Rattle.refusals.specs.Numbers.{answered}
 use Rattle.places.specs.Left.{lentOf, zeroLoop, Builds}
 use Rattle.places.proofs.OpenLoop as loop
-use Rattle.taking.proofs.Values.{loop-value, zero-is, answer-value}
+use Rattle.tables.proofs.Records.{loop-value, zero-is}
+use Rattle.tables.proofs.Values.{answer-value}
 use Rattle.build.proofs.Table.{table, table-val, table-is, table-room, table-typed}
 use Rattle.build.proofs.build as build
 use Rattle.build.proofs.build.Symbol as build-def

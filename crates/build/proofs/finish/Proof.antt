@@ -20,7 +20,7 @@ same-length-3 : tie.Need-same-length-3
 same-length-3 c = search needs
 
 returns : tie.Need-returns
-returns c = λ k. rw (c .before .before .before .before .before .before .before .before .before .before .before .verdict .given .1) (c .before .before .before .before .before .before .refused .ensures k)
+returns c = record { ends = λ k. rw (c .before .before .before .before .before .before .before .before .before .before .before .verdict .given .1) (c .before .before .before .before .before .before .refused .ensures k) }
 
 enum-told : tie.Need-enum-told
 enum-told c = search needs
@@ -50,7 +50,7 @@ same-length-6 : tie.Need-same-length-6
 same-length-6 c = search needs
 
 returns-2 : tie.Need-returns-2
-returns-2 c = λ k. rw (c .before .before .before .before .before .before .before .before .before .before .before .before .before .before .before .before .before .before .before .enum-told .given .1, sym (c .before .before .before .before .before .before .before .before .before .before .before .before .before .before .before .aim-all .ensures .outcome) ∙ c .before .before .before .before .before .before .before .before .before .before .before .aims .given .1, ← c .before .before .before .before .before .before .before .before .before .before .before .before .before .before .before .aim-all .ensures .here) (c .before .before .before .before .before .before .refused2 .ensures k)
+returns-2 c = record { ends = λ k. rw (c .before .before .before .before .before .before .before .before .before .before .before .before .before .before .before .before .before .before .before .enum-told .given .1, sym (c .before .before .before .before .before .before .before .before .before .before .before .before .before .before .before .aim-all .ensures .outcome) ∙ c .before .before .before .before .before .before .before .before .before .before .before .aims .given .1, ← c .before .before .before .before .before .before .before .before .before .before .before .before .before .before .before .aim-all .ensures .here) (c .before .before .before .before .before .before .refused2 .ensures k) }
 
 same-length-7 : tie.Need-same-length-7
 same-length-7 c = search needs
@@ -62,7 +62,7 @@ same-length-9 : tie.Need-same-length-9
 same-length-9 c = search needs
 
 returns-3 : tie.Need-returns-3
-returns-3 c = λ k. rw (c .before .before .before .before .before .before .before .before .before .enum-told .given .1, sym (c .before .before .before .before .before .aim-all .ensures .outcome) ∙ c .before .enum-told2 .given .1) (record { answer = refl; parcels = c .before .before .before .before .before .aim-all .ensures .here; labels = refl; jumps = refl; loops = refl })
+returns-3 c = record { ends = λ k. rw (c .before .before .before .before .before .before .before .before .before .enum-told .given .1, sym (c .before .before .before .before .before .aim-all .ensures .outcome) ∙ c .before .enum-told2 .given .1) (record { answer = refl; parcels = c .before .before .before .before .before .aim-all .ensures .here; labels = refl; jumps = refl; loops = refl }) }
 
 pub finish-spec : {M : Type 1} → statement M
 finish-spec =

@@ -51,59 +51,59 @@ returns-10 c = let e : toZ w32 (ofZ w32 (c .before .before .v10 .given .0 .1 .1 
 
 returns-11 : tie.Need-returns-11
 unfolding formOf layoutOf
-returns-11 c = rw (c .before .enum-told .given .1) (ap Word (rw (c .before .enum-told .given .1) at (c .visa-compute .ensures)))
+returns-11 c = rw (c .before .before .v11 .given .1) (ap Word (c .compute-word .ensures))
 
 returns-12 : tie.Need-returns-12
 unfolding formOf layoutOf
-returns-12 c = rw (c .before .enum-told2 .given .1) (ap Word (rw (c .before .enum-told2 .given .1) at (c .visa-compute2 .ensures)))
+returns-12 c = rw (c .before .before .v12 .given .1) (ap Word (c .compute-word2 .ensures))
 
 returns-13 : tie.Need-returns-13
 unfolding formOf layoutOf
-returns-13 c = rw (c .before .enum-told3 .given .1) (ap Word (rw (c .before .enum-told3 .given .1) at (c .visa-compute3 .ensures)))
+returns-13 c = rw (c .before .before .v13 .given .1) (ap Word (c .compute-word3 .ensures))
 
 returns-14 : tie.Need-returns-14
 unfolding formOf layoutOf jumpForm
-returns-14 c = let e : toZ w32 (ofZ w32 (c .before .before .v11 .given .0 .1 .0)) ≡ (c .before .before .v11 .given .0 .1 .0) = search needs in rw (c .before .before .v11 .given .1) (rw e at (c .jump-relative .ensures))
+returns-14 c = let e : toZ w32 (ofZ w32 (c .before .before .v14 .given .0 .1 .0)) ≡ (c .before .before .v14 .given .0 .1 .0) = search needs in rw (c .before .before .v14 .given .1) (rw e at (c .jump-relative .ensures))
 
 returns-15 : tie.Need-returns-15
-returns-15 c = rw (c .before .before .v12 .given .1) (c .call-form .ensures)
+returns-15 c = rw (c .before .before .v15 .given .1) (c .call-form .ensures)
 
 returns-16 : tie.Need-returns-16
 unfolding formOf layoutOf
-returns-16 c = rw (c .before .before .v13 .given .1) (ap Word (c .store-word .ensures))
+returns-16 c = rw (c .before .before .v16 .given .1) (ap Word (c .store-word .ensures))
 
 returns-17 : tie.Need-returns-17
 unfolding formOf layoutOf
-returns-17 c = rw (c .enum-told4 .given .1)
+returns-17 c = rw (c .enum-told .given .1)
 
 returns-18 : tie.Need-returns-18
 unfolding formOf layoutOf
-returns-18 c = rw (c .before .before .v14 .given .1) (ap Word (c .field-word .ensures))
+returns-18 c = rw (c .before .before .v17 .given .1) (ap Word (c .field-word .ensures))
 
 returns-19 : tie.Need-returns-19
-returns-19 c = rw (c .before .before .v15 .given .1) (c .dual-move .ensures)
+returns-19 c = rw (c .before .before .v18 .given .1) (c .dual-move .ensures)
 
 returns-20 : tie.Need-returns-20
-returns-20 c = rw (c .before .before .v16 .given .1) (c .memory-move .ensures)
+returns-20 c = rw (c .before .before .v19 .given .1) (c .memory-move .ensures)
 
 returns-21 : tie.Need-returns-21
-returns-21 c = rw (c .before .before .v17 .given .1) (c .store-immediate .ensures)
+returns-21 c = rw (c .before .before .v20 .given .1) (c .store-immediate .ensures)
 
 returns-22 : tie.Need-returns-22
 unfolding formOf layoutOf
-returns-22 c = rw (c .before .before .v18 .given .1) (ap Word (c .mode-word .ensures))
+returns-22 c = rw (c .before .before .v21 .given .1) (ap Word (c .mode-word .ensures))
 
 returns-23 : tie.Need-returns-23
 unfolding formOf layoutOf
-returns-23 c = rw (c .before .before .v19 .given .1) (ap Word (c .mode-word2 .ensures))
+returns-23 c = rw (c .before .before .v22 .given .1) (ap Word (c .mode-word2 .ensures))
 
 returns-24 : tie.Need-returns-24
 unfolding formOf layoutOf
-returns-24 c = rw (c .enum-told5 .given .1)
+returns-24 c = rw (c .enum-told2 .given .1)
 
 returns-25 : tie.Need-returns-25
 unfolding formOf layoutOf
-returns-25 c = rw (c .enum-told6 .given .1)
+returns-25 c = rw (c .enum-told3 .given .1)
 
 pub visa-form-spec : {M : Type 1} → statement M
 visa-form-spec =

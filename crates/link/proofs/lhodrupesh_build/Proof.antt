@@ -32,7 +32,7 @@ use Rattle.places.specs.declared.OpenLoop.{OpenLoop}
 use Rattle.refusals.specs.Numbers.{answered}
 use Rattle.places.specs.Left.{lentOf, Builds}
 use Rattle.places.proofs.OpenLoop as loop
-use Rattle.taking.proofs.Values.{answer-value}
+use Rattle.tables.proofs.Values.{answer-value}
 use Rattle.link.proofs.Values.{told-value}
 use Rattle.link.proofs.Whole.{told-is}
 use Rattle.build.proofs.build as build

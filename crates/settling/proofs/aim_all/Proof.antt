@@ -4,7 +4,7 @@ use Rattle.settling.proofs.Waits.{read-on}
 use Rattle.coded.proofs.Fine.{coded-fine}
 use Rattle.refusals.specs.Scan.{Going, going-start, going-next, going-stop, going-end}
 use Rattle.settling.specs.Settling.{waitChk, waited}
-use Rattle.places.specs.Items.{rowAt}
+use Rattle.places.specs.Items.{kernelOf}
 use denote.Ref.{now}
 use lib.ListN.{length}
 use native.Mathlib.Omega.{arith}
@@ -15,7 +15,7 @@ use Rattle.settling.proofs.aim_all.Statement.{statement}
 use Rattle.settling.proofs.aim_all.Tie as tie
 
 abbrev Inv-loop : tie.InvT-loop
-Inv-loop rows names parcels₀ labels n jumps count k₀ parcels k = (Going (waitChk names (rowAt rows names) labels n jumps) (waited names (rowAt rows names) labels n jumps) parcels₀ count k parcels) × (length parcels ≡ length parcels₀)
+Inv-loop rows names parcels₀ labels n jumps count k₀ parcels k = (Going (waitChk (kernelOf rows names) labels n jumps) (waited (kernelOf rows names) labels n jumps) parcels₀ count k parcels) × (length parcels ≡ length parcels₀)
 
 abbrev μ-loop : tie.MeasureT-loop
 μ-loop rows names parcels₀ labels n jumps count k₀ parcels k = count - k

@@ -28,7 +28,7 @@ past-rows-requires : tie.Need-past-rows-requires
 past-rows-requires c κs = search needs
 
 returns-2 : tie.Need-returns-2
-returns-2 c = inr (sym (c .before .before .going .ensures) ∙ c .before .if1 .left, record { answer = c .past-rows .ensures; parcels = refl; labels = refl; jumps = refl })
+returns-2 c = inr (sym (c .before .before .going .ensures) ∙ c .before .if1 .left, record { answer = c .past-rows .ensures; same = refl })
 
 pub onward-spec : {M : Type 1} → statement M
 onward-spec =

@@ -35,14 +35,16 @@ use Rattle.walks.proofs.Parts.{truth, fits, placed, tyAt, second, held, failed,
 use Rattle.walks.proofs.Lent.{slice, under, ref-of, slice-of, copied, lends, back}
 use Rattle.places.specs.declared.OpenLoop.{OpenLoop}
 use Rattle.places.specs.declared.Rooms.{Rooms}
+use Rattle.places.specs.Items.{kernelOf}
 use Rattle.places.specs.Left.{Lent, lentOf}
 use Rattle.places.proofs.OpenLoop as loop
 use Rattle.places.proofs.Rooms as rooms′
-use Rattle.machine.specs.Machine.{Rooming}
+use Rattle.tables.proofs.Values.{rooms-value}
+use Rattle.checks.specs.Rooming.{RoomingIn}
 use Rattle.taking.specs.declared.Taking.{Taking}
 use Rattle.taking.specs.Taking.{startOf, moreOf, Turnt}
 use Rattle.taking.proofs.Taking as taking
-use Rattle.taking.proofs.Values.{rooms-value, taking-value}
+use Rattle.taking.proofs.Values.{taking-value}
 use Rattle.taking.proofs.Turning.{Along, left, along-start, along-ready, along-next, left-less, along-end}
 use Rattle.taking.proofs.begun as begun
 use Rattle.taking.proofs.begun.Symbol as begun-def
@@ -95,7 +97,7 @@ module _ {M : Type 1} (𝓤 : URA M) (H : Heap 𝓤) (A : Atoms 𝓤) (W : Given
   abbrev Post′ : Val → SProp 𝓤
   Post′ = walkOf 𝓤 H A take-rows.ended stayed (take-rows.clauses 𝓤 H A mem run) .post y
 
-  module _ (𝓣 : Tables 𝓤 H) (known₁ : Triple 𝓤 (𝓣 .C #taking·begun) (ContractOf 𝓤 H A begun.ended (begun.clauses 𝓤 H A mem run))) (known₂ : Triple 𝓤 (𝓣 .C #taking·more) (ContractOf 𝓤 H A more.ended (more.clauses 𝓤 H A mem run))) (known₃ : Triple 𝓤 (𝓣 .C #taking·turn) (ContractOf 𝓤 H A turn.ended (turn.clauses 𝓤 H A mem run))) (room-rows : Room u32 (length (rows .now))) (room-names : Room u8 (length (names .now))) (is-rooms : Is rooms′.the-row rooms (rooms-value .val rooms ∷ [])) (room-parcels : Room u16 (length (parcels .now))) (room-labels : Room u32 (length (labels .now))) (room-jumps : Room u32 (length (jumps .now))) (room-loops : Room loop.the-row (length (loops .now))) (asked : Rooming rooms (length (parcels .now)) (length (labels .now)) (length (jumps .now)) (length (loops .now))) where
+  module _ (𝓣 : Tables 𝓤 H) (known₁ : Triple 𝓤 (𝓣 .C #taking·begun) (ContractOf 𝓤 H A begun.ended (begun.clauses 𝓤 H A mem run))) (known₂ : Triple 𝓤 (𝓣 .C #taking·more) (ContractOf 𝓤 H A more.ended (more.clauses 𝓤 H A mem run))) (known₃ : Triple 𝓤 (𝓣 .C #taking·turn) (ContractOf 𝓤 H A turn.ended (turn.clauses 𝓤 H A mem run))) (room-rows : Room u32 (length (rows .now))) (room-names : Room u8 (length (names .now))) (is-rooms : Is rooms′.the-row rooms (rooms-value .val rooms ∷ [])) (room-parcels : Room u16 (length (parcels .now))) (room-labels : Room u32 (length (labels .now))) (room-jumps : Room u32 (length (jumps .now))) (room-loops : Room loop.the-row (length (loops .now))) (asked : RoomingIn rooms (lentOf (parcels .now) (labels .now) (jumps .now) (loops .now))) where
     abbrev C : Calls 𝓤 H
     C = 𝓣 .C
 
@@ -133,7 +135,7 @@ module _ {M : Type 1} (𝓤 : URA M) (H : Heap 𝓤) (A : Atoms 𝓤) (W : Given
           move ! (15 ∷ 17 ∷ []) $ lends ! tt u32 (named 4) (named 4) κ₄ q₄ jumps (x .jumps) (x .len-jumps) (λ ν₂-jumps δ₂-jumps. move ! (18 ∷ 19 ∷ []) $
           lends ! tt loop.the-row (named 5) (named 5) κ₅ q₅ loops (x .loops) (x .len-loops) (λ ν₂-loops δ₂-loops. made ! taking-value (x .t) (x .is-t) $ move ! (1 ∷ 4 ∷ 7 ∷ 10 ∷ 21 ∷ 18 ∷ 0 ∷ 2 ∷ 5 ∷ 8 ∷ 11 ∷ 13 ∷ 14 ∷ 16 ∷ []) $
           calls-last W ! turn.ended (turn.clauses 𝓤 H A mem run) (((κ₀, (κ₁, (ν₂-parcels ∷ [], (ν₂-labels ∷ [], (ν₂-jumps ∷ [], (ν₂-loops ∷ [], tt)))))), (q₀, (q₁, (fullShare, (fullShare, (fullShare, (fullShare, tt)))))), tt, (rows, (names, (rooms, (under parcels δ₂-parcels (x .parcels), (under labels δ₂-labels (x .labels), (under jumps δ₂-jumps (x .jumps), (under loops δ₂-loops (x .loops), ((x .t), tt)))))))), (slice rows ∷ [], (slice names ∷ [], (rooms-value .val rooms ∷ [], (slice parcels ∷ [], (slice labels ∷ [], (slice jumps ∷ [], (slice loops ∷ [], (taking-value .val (x .t) ∷ [], tt))))))))), tt) taking-value
-          (λ r ws. Turnt (rows .now) (names .now) rooms (x .t) (lentOf (x .parcels) (x .labels) (x .jumps) (x .loops)) r (lentOf (ws .1 .1 .1 .0) (ws .1 .1 .1 .1 .0) (ws .1 .1 .1 .1 .1 .0) (ws .1 .1 .1 .1 .1 .1 .0))) (λ r ws. id⊢ 𝓤 _) fm known₃ (factI 𝓤 _ (emp 𝓤) (along-ready (x .along) more′)) (and-then ! (whole-of ! 41 refl) (and-then ! (whole-of ! 39 refl) (and-then ! (whole-of ! 37 refl) (and-then ! (whole-of ! 21 refl) (and-then ! (whole-of ! 17 refl) (and-then ! (whole-of ! 13 refl) (and-then ! (whole-of ! 9 refl) (and-then ! (whole-of ! 27 refl) (no-more !))))))))) (λ r₂ ws₂ is₂ e₂.
+          (λ r ws. Turnt (kernelOf (rows .now) (names .now)) rooms (x .t) (lentOf (x .parcels) (x .labels) (x .jumps) (x .loops)) r (lentOf (ws .1 .1 .1 .0) (ws .1 .1 .1 .1 .0) (ws .1 .1 .1 .1 .1 .0) (ws .1 .1 .1 .1 .1 .1 .0))) (λ r ws. id⊢ 𝓤 _) fm known₃ (factI 𝓤 _ (emp 𝓤) (along-ready (x .along) more′)) (and-then ! (whole-of ! 41 refl) (and-then ! (whole-of ! 39 refl) (and-then ! (whole-of ! 37 refl) (and-then ! (whole-of ! 21 refl) (and-then ! (whole-of ! 17 refl) (and-then ! (whole-of ! 13 refl) (and-then ! (whole-of ! 9 refl) (and-then ! (whole-of ! 27 refl) (no-more !))))))))) (λ r₂ ws₂ is₂ e₂.
           move ! (3 ∷ 17 ∷ 10 ∷ []) $ back ! tt u16 (named 2) (named 2) κ₂ q₂ parcels (x .parcels) (x .len-parcels) room-parcels ν₂-parcels δ₂-parcels (ws₂ .1 .1 .1 .0) (λ len₂-parcels. move ! (4 ∷ 16 ∷ 10 ∷ []) $
           back ! tt u32 (named 3) (named 3) κ₃ q₃ labels (x .labels) (x .len-labels) room-labels ν₂-labels δ₂-labels (ws₂ .1 .1 .1 .1 .0) (λ len₂-labels. move ! (5 ∷ 15 ∷ 10 ∷ []) $
           back ! tt u32 (named 4) (named 4) κ₄ q₄ jumps (x .jumps) (x .len-jumps) room-jumps ν₂-jumps δ₂-jumps (ws₂ .1 .1 .1 .1 .1 .0) (λ len₂-jumps. move ! (6 ∷ 14 ∷ 10 ∷ []) $
@@ -164,7 +166,7 @@ take-rows-spec 𝓤 H 𝓜 𝓖 𝓡 =
     by-walk 𝓤 H 𝓜 𝓖 𝓡 code.env #taking·take-rows code.function (code.unfolded 𝓤 H 𝓜 𝓡) take-rows.ended (take-rows.clauses 𝓤 H (𝓖 .A) (𝓜 .mem) (𝓡 .run)) stayed
     (goes-dropped 𝓤 H (𝓖 .A) W 6 (shrSliceOf (0 ∷ []) tt (plain (λ _. u32))) yes (λ κs x f. refl), (goes-dropped 𝓤 H (𝓖 .A) W 6 (shrSliceOf (1 ∷ []) tt (plain (λ _. u8))) yes (λ κs x f. refl), (goes-dropped 𝓤 H (𝓖 .A) W 6 (plain (λ _. rooms′.the-row)) yes (λ κs x f. refl), (goes-slice 𝓤 H (𝓖 .A) W 6 2 tt (plain (λ _. u16)), (goes-slice 𝓤 H (𝓖 .A) W 6 3 tt (plain (λ _. u32)), (goes-slice 𝓤 H (𝓖 .A) W 6 4 tt (plain (λ _. u32)), (goes-slice 𝓤 H (𝓖 .A) W 6 5 tt (plain (λ _. loop.the-row)), tt)))))))
     (λ κs. (slice-vals, (slice-vals, ((λ x. rooms-value .val x ∷ []), (slice-vals, (slice-vals, (slice-vals, (slice-vals, tt)))))))) (λ κs. (shr-slice-tells (named 0) (κs .0) u32, (shr-slice-tells (named 1) (κs .1 .0) u8, (rooms-value .tells, (mut-slice-tells (named 2) (κs .1 .1 .0) u16, (mut-slice-tells (named 3) (κs .1 .1 .1 .0) u32, (mut-slice-tells (named 4) (κs .1 .1 .1 .1 .0) u32, (mut-slice-tells (named 5) (κs .1 .1 .1 .1 .1 .0) loop.the-row, tt))))))))
-    (λ fm κs qs bounds a _ are. needs 𝓤 (Rooming (a .1 .1 .0) (length ((a .1 .1 .1 .0) .now)) (length ((a .1 .1 .1 .1 .0) .now)) (length ((a .1 .1 .1 .1 .1 .0) .now)) (length ((a .1 .1 .1 .1 .1 .1 .0) .now))) _ (λ asked. walk 𝓤 H (𝓖 .A) W (𝓜 .mem) (𝓡 .run) (κs .0) (κs .1 .0) (κs .1 .1 .0) (κs .1 .1 .1 .0) (κs .1 .1 .1 .1 .0) (κs .1 .1 .1 .1 .1 .0) (qs .0) (qs .1 .0) (qs .1 .1 .0) (qs .1 .1 .1 .0) (qs .1 .1 .1 .1 .0) (qs .1 .1 .1 .1 .1 .0) (a .0) (a .1 .0) (a .1 .1 .0) (a .1 .1 .1 .0) (a .1 .1 .1 .1 .0) (a .1 .1 .1 .1 .1 .0) (a .1 .1 .1 .1 .1 .1 .0) (tablesOf 𝓤 H 𝓜 (tables 𝓤 H 𝓜 𝓡 code.env))
+    (λ fm κs qs bounds a _ are. needs 𝓤 (RoomingIn (a .1 .1 .0) (lentOf ((a .1 .1 .1 .0) .now) ((a .1 .1 .1 .1 .0) .now) ((a .1 .1 .1 .1 .1 .0) .now) ((a .1 .1 .1 .1 .1 .1 .0) .now))) _ (λ asked. walk 𝓤 H (𝓖 .A) W (𝓜 .mem) (𝓡 .run) (κs .0) (κs .1 .0) (κs .1 .1 .0) (κs .1 .1 .1 .0) (κs .1 .1 .1 .1 .0) (κs .1 .1 .1 .1 .1 .0) (qs .0) (qs .1 .0) (qs .1 .1 .0) (qs .1 .1 .1 .0) (qs .1 .1 .1 .1 .0) (qs .1 .1 .1 .1 .1 .0) (a .0) (a .1 .0) (a .1 .1 .0) (a .1 .1 .1 .0) (a .1 .1 .1 .1 .0) (a .1 .1 .1 .1 .1 .0) (a .1 .1 .1 .1 .1 .1 .0) (tablesOf 𝓤 H 𝓜 (tables 𝓤 H 𝓜 𝓡 code.env))
     (cited 𝓤 H (ContractOf 𝓤 H (𝓖 .A) begun.ended (begun.clauses 𝓤 H (𝓖 .A) (𝓜 .mem) (𝓡 .run))) 𝓜 𝓡 code.env #taking·begun begun-def.routine code.calls-taking·begun (begun-thm.met 𝓤 H 𝓜 𝓖 𝓡))
     (cited 𝓤 H (ContractOf 𝓤 H (𝓖 .A) more.ended (more.clauses 𝓤 H (𝓖 .A) (𝓜 .mem) (𝓡 .run))) 𝓜 𝓡 code.env #taking·more more-def.routine code.calls-taking·more (more-thm.met 𝓤 H 𝓜 𝓖 𝓡))
     (cited 𝓤 H (ContractOf 𝓤 H (𝓖 .A) turn.ended (turn.clauses 𝓤 H (𝓖 .A) (𝓜 .mem) (𝓡 .run))) 𝓜 𝓡 code.env #taking·turn turn-def.routine code.calls-taking·turn (turn-thm.met 𝓤 H 𝓜 𝓖 𝓡))

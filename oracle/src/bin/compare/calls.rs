@@ -21,40 +21,62 @@ fn unlike<T: PartialEq + std::fmt::Debug>(expected: T, found: T) -> Option<Strin
 }
 
 mod build {
+    use std::iter;
     use std::sync::atomic::Ordering::Relaxed;
 
     use visa_oracle::cases::{self, Buffers, Case};
     use visa_oracle::judge;
-    use visa_oracle::linked::whole;
-    use visa_oracle::list::List;
-    use visa_oracle::second::{Lent, Told};
+    use visa_oracle::linked::whole::{Build, BUILDS};
+    use visa_oracle::second::Told;
 
     use super::unlike;
     use crate::lists::Tally;
 
-    /// Answer, every place of every lent buffer and the guards around them; then the Rust's word.
+    /// An answer and what was left in the lent buffers, by whom.
+    struct Built {
+        by: &'static str,
+        told: Told,
+        left: Buffers,
+    }
+
+    impl Built {
+        fn by_second_reading(case: &Case) -> Self {
+            let (told, left) = cases::second(case);
+            Self { by: "the second reading", told, left }
+        }
+
+        fn by_port((by, build): Build, case: &Case) -> Self {
+            let mut left = Buffers::new(&case.lengths);
+            let told = build(&case.list, &mut left.lent());
+            Self { by, told, left }
+        }
+
+        /// The answer, every place of every lent buffer and the guards around them.
+        fn difference(&self, found: &Self) -> Option<String> {
+            let answer = unlike(self.told, found.told);
+            let difference = answer.or_else(|| self.left.difference(&found.left))?;
+            Some(format!("{} held to {}: {difference}", found.by, self.by))
+        }
+    }
+
+    /// The second reading and the port's builds, each held to all before it; then to the Rust.
     pub fn difference(case: &Case, tally: &Tally) -> Option<String> {
-        let (expected, left) = cases::second(case);
-        let (told, mut found) = answer(case, whole::build);
-        let (plain_told, plain_found) = answer(case, whole::plain_build);
-        unlike(expected, told)
-            .or_else(|| unlike(expected, plain_told))
-            .or_else(|| left.difference(&found))
-            .or_else(|| left.difference(&plain_found))
-            .or_else(|| rust_difference(case, &told, found.parcels.lent(), tally))
+        let second = iter::once(Built::by_second_reading(case));
+        let port = BUILDS.into_iter().map(|build| Built::by_port(build, case));
+        let mut all: Vec<Built> = second.chain(port).collect();
+        let held = |(before, found)| all[..before].iter().find_map(|built| built.difference(found));
+        let difference = all.iter().enumerate().find_map(held);
+        difference.or_else(|| rust_difference(case, &mut all, tally))
     }
 
-    fn rust_difference(case: &Case, told: &Told, parcels: &[u16], tally: &Tally) -> Option<String> {
-        let program = judge::program(&case.list, told)?;
+    fn rust_difference(case: &Case, all: &mut [Built], tally: &Tally) -> Option<String> {
+        let rust = judge::program(&case.list, &all[0].told)?.parcels();
         tally.asked.fetch_add(1, Relaxed);
-        judge::difference(&program, &case.list.names, told, parcels)
-    }
-
-    /// The port's answer, and what it leaves.
-    fn answer(case: &Case, build: fn(&List, &mut Lent) -> Told) -> (Told, Buffers) {
-        let mut buffers = Buffers::new(&case.lengths);
-        let told = build(&case.list, &mut buffers.lent());
-        (told, buffers)
+        all.iter_mut().find_map(|Built { by, told, left }| {
+            let parcels = left.parcels.lent();
+            let difference = judge::difference(&rust, &case.list.names, told, parcels)?;
+            Some(format!("{by}: {difference}"))
+        })
     }
 }
 

@@ -53,7 +53,8 @@ pub fn compare(options: &Options, count: u64) -> bool {
         return false;
     }
     println!(
-        "compare lists: {} lists compared, {} of them put before the Rust, seed {seed}, no difference",
+        "compare lists: {} lists compared, each built by both engines, {} of them put before the Rust, \
+         seed {seed}, no difference",
         chosen.len() as u64 + slotted.count() + count,
         tally.asked.into_inner()
     );

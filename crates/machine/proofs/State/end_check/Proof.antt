@@ -2,7 +2,7 @@
 use Rattle.machine.specs.Machine.{topForm}
 use Rattle.encode.specs.Encoding.{formVerdict}
 use mathlib.Core.Path.{_∙_, ap}
-use Rattle.machine.proofs.Checks.{last-one}
+use Rattle.refusals.proofs.Order.{last-one}
 use borrow.Author.Tests.{eq-eqb, ne-eqb}
 use borrow.Author.Needs.{needs}
 use Rattle.machine.proofs.State.end_check.Statement.{statement}

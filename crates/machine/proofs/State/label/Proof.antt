@@ -3,12 +3,13 @@ use mathlib.Core.Path.{sym, _∙_}
 use native.Mathlib.Omega.{arith}
 use denote.Ref.{now}
 use borrow.Author.Needs.{needs}
-use Rattle.machine.proofs.Checks.{stopped, went, kept, took, label-good}
+use Rattle.machine.proofs.Checks.{stopped, went, kept, took}
+use Rattle.checks.proofs.Passed.{label-good}
 use Rattle.machine.proofs.State.label.Statement.{statement}
 use Rattle.machine.proofs.State.label.Tie as tie
 
-label-check-requires : tie.Need-label-check-requires
-label-check-requires c κs = search needs
+label-requires : tie.Need-label-requires
+label-requires c κs = search needs
 
 enum-known-k : tie.Need-enum-known-k
 enum-known-k c = search needs
@@ -17,7 +18,7 @@ same-length : tie.Need-same-length
 same-length c = search needs
 
 returns : tie.Need-returns
-returns c = let e = sym (c .before .before .before .label-check .ensures) ∙ c .before .k .given .1 in record { answer = stopped _ e; labels = kept _ _ e }
+returns c = let e = sym (c .before .before .before .label .ensures) ∙ c .before .k .given .1 in record { answer = stopped _ e; labels = kept _ _ e }
 
 enum-told : tie.Need-enum-told
 enum-told c = search needs
@@ -29,7 +30,7 @@ cast-t16 : tie.Need-cast-t16
 cast-t16 c = search needs
 
 store-requires : tie.Need-store-requires
-store-requires c κs = let a = c .before .before .before .before .before .before .before .before .args in let e = sym (c .before .before .before .before .label-check .ensures) ∙ c .before .before .enum-told .given .1 in omega (arith, label-good (now (a .names)) (a .self) (a .rooms) (now (a .labels)) (a .start) (a .len) e .labels)
+store-requires c κs = let a = c .before .before .before .before .before .before .before .before .args in let e = sym (c .before .before .before .before .label .ensures) ∙ c .before .before .enum-told .given .1 in omega (arith, label-good (a .rooms) (a .self .depth) (now (a .names)) (now (a .labels)) (a .self .labels) (a .start) (a .len) e .labels)
 
 add-self : tie.Need-add-self
 add-self c = search needs
@@ -38,13 +39,13 @@ same-length-2 : tie.Need-same-length-2
 same-length-2 c = search needs
 
 returns-2 : tie.Need-returns-2
-returns-2 c = let e = sym (c .before .before .before .before .before .before .before .label-check .ensures) ∙ c .before .before .before .before .before .enum-told .given .1 in record { answer = went _ e; labels = took _ _ e (c .before .before .store .ensures) }
+returns-2 c = let e = sym (c .before .before .before .before .before .before .before .label .ensures) ∙ c .before .before .before .before .before .enum-told .given .1 in record { answer = went _ e; labels = took _ _ e (c .before .before .store .ensures) }
 
 pub label-spec : {M : Type 1} → statement M
 label-spec =
     tie.close
     (tie.spec
-    label-check-requires
+    label-requires
     enum-known-k
     same-length
     returns

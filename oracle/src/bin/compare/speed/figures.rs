@@ -5,6 +5,7 @@ use std::hint::black_box;
 use lhodrupesh::{c, plain};
 use visa_oracle::cases::Lengths;
 pub use visa_oracle::kernels::SPARSE;
+use visa_oracle::linked::whole::OfC;
 use visa_oracle::list::List;
 use visa_oracle::random::Random;
 use visa_oracle::row::Row;
@@ -14,6 +15,7 @@ use super::clock::{self, Contender, Contest};
 use super::inputs::{self, Target};
 
 pub const PORT: &str = "the port";
+pub const PLAIN: &str = "the plain engine";
 pub const PORT_TYPES: &str = "the port's Rust types";
 pub const FROM_ROWS: &str = "the Rust from rows";
 pub const PARCELS: &str = "the Rust's parcels()";
@@ -111,16 +113,18 @@ fn labels(random: &mut Random, runs: u64, target: Target) -> Contest {
     builds(fewer(runs), &[inputs::labels(random, target)])
 }
 
-/// The build of these lists: the port's, the Rust's with and without construction, and a copy of
-/// the rows. Times are those of an item.
+/// The build of these lists: the port's by either engine, the Rust's with and without construction,
+/// and a copy of the rows. Times are those of an item.
 fn builds(runs: u64, lists: &[List]) -> Contest {
     let items: usize = lists.iter().map(|list| list.rows().count()).sum();
     let programs: Vec<_> =
         lists.iter().map(|list| rust::program(list).expect("rows that say items")).collect();
     let longest = lists.iter().map(|list| list.numbers.len()).max().unwrap_or(0);
-    let mut buffers = Buffers::for_lists(lists);
+    let (mut first, mut second) = (Buffers::for_lists(lists), Buffers::for_lists(lists));
     let mut copy = vec![0; longest];
-    let port = || lists.iter().for_each(|list| buffers.build(black_box(list)));
+    let port = || lists.iter().for_each(|list| first.build(c::build, black_box(list)));
+    let plain_engine =
+        || lists.iter().for_each(|list| second.build(c::build_plain, black_box(list)));
     let port_types = || {
         for list in lists {
             let program = port::program(black_box(list)).expect("rows that say items");
@@ -144,8 +148,9 @@ fn builds(runs: u64, lists: &[List]) -> Contest {
             black_box(&mut copy);
         }
     };
-    let mut contenders: [Contender; 5] = [
+    let mut contenders: [Contender; 6] = [
         (PORT, Box::new(port)),
+        (PLAIN, Box::new(plain_engine)),
         (PORT_TYPES, Box::new(port_types)),
         (FROM_ROWS, Box::new(from_rows)),
         (PARCELS, Box::new(parcels)),
@@ -190,9 +195,9 @@ impl Buffers {
         }
     }
 
-    pub fn build(&mut self, list: &List) {
+    pub fn build(&mut self, engine: OfC, list: &List) {
         let Self { parcels, labels, jumps, loops } = self;
-        let told = c::build(&list.numbers, &list.names, parcels, labels, jumps, loops);
+        let told = engine(&list.numbers, &list.names, parcels, labels, jumps, loops);
         assert_eq!(black_box(told).number, 0, "a kernel that is refused");
     }
 }

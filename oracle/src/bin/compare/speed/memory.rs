@@ -69,7 +69,7 @@ fn peak(what: What) -> usize {
     forget_highest();
     let before = resident();
     match what {
-        What::Port => buffers.build(&lists[0]),
+        What::Port => buffers.build(c::build, &lists[0]),
         _ => {
             let program = rust::program(&lists[0]).expect("rows that say items");
             black_box(program.parcels().expect("a good kernel"));
@@ -115,7 +115,8 @@ fn depths() -> Vec<usize> {
     let mut buffers = Buffers::for_lists(&lists);
     let mut bytes = [0; 64];
     vec![
-        depth(|| buffers.build(&lists[0])),
+        depth(|| buffers.build(c::build, &lists[0])),
+        depth(|| buffers.build(c::build_plain, &lists[0])),
         depth(|| {
             for row in lists[0].rows() {
                 black_box(c::instruction(row));

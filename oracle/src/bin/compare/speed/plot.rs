@@ -1,7 +1,7 @@
 //! docs/speed.svg: the medians with their quartiles, on a logarithmic axis.
 
 use super::clock::{Contest, Spread};
-use super::figures::{Figures, Kernels, COPY, FROM_ROWS, PARCELS, PORT, PORT_TYPES};
+use super::figures::{Figures, Kernels, COPY, FROM_ROWS, PARCELS, PLAIN, PORT, PORT_TYPES};
 use super::report::grouped;
 
 const WIDTH: f64 = 960.0;
@@ -29,8 +29,9 @@ const LINES: [(f64, bool); 14] = [
 ];
 
 /// Who is shown, in which colour.
-const SERIES: [(&str, &str); 5] = [
+const SERIES: [(&str, &str); 6] = [
     (PORT, "#0b5fa5"),
+    (PLAIN, "#2a8f5a"),
     (PORT_TYPES, "#6aaed6"),
     (FROM_ROWS, "#b3401a"),
     (PARCELS, "#e59a3c"),
@@ -100,13 +101,17 @@ fn dot(x: f64, y: f64, colour: &str) -> String {
     format!("<circle cx=\"{x:.1}\" cy=\"{y:.1}\" r=\"5\" fill=\"{colour}\"/>\n")
 }
 
+/// Each name has room by its letters.
 fn legend() -> String {
-    let mut text = String::new();
-    let wide = (WIDTH - LEFT - RIGHT) / SERIES.len() as f64;
-    for (number, (name, colour)) in SERIES.iter().enumerate() {
-        let x = LEFT + wide * number as f64 + 8.0;
+    const MARK: f64 = 26.0;
+    let letters: usize = SERIES.iter().map(|(name, _)| name.len()).sum();
+    let marks = MARK * SERIES.len() as f64;
+    let letter = (WIDTH - LEFT - RIGHT - marks) / letters as f64;
+    let (mut text, mut x) = (String::new(), LEFT + 8.0);
+    for (name, colour) in SERIES {
         text += &dot(x, 56.0, colour);
-        text += &label(x + 12.0, 60.5, "start", 13, name);
+        text += &label(x + 12.0, 60.5, "start", 12, name);
+        x += MARK + letter * name.len() as f64;
     }
     text
 }

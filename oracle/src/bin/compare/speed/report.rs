@@ -6,7 +6,7 @@ use std::{fs, thread};
 use visa_oracle::row::WIDTH;
 
 use super::clock::{Contest, Spread};
-use super::figures::{self, Figures, Kernels, COPY, FROM_ROWS, PARCELS, PORT, PORT_TYPES};
+use super::figures::{self, Figures, Kernels, COPY, FROM_ROWS, PARCELS, PLAIN, PORT, PORT_TYPES};
 use super::memory::{self, Memory};
 
 /// To reach: the ratio to each.
@@ -23,6 +23,8 @@ the thread, so that other work on the machine is not in them, in nanoseconds an 
 
 - **The port** is `lhodrupesh_build` from rows, names and lent buffers: construction is included, since rows are what it takes. The buffers are
   lent again from run to run and not cleared between.
+- **The plain engine** is `lhodrupesh_build_plain` on the same rows, with buffers of its own: a second engine in two walks, to hold the first against
+  and not to be quick. No ratio is to be reached by it.
 - **The Rust from rows** makes a `VisaProgram` of the same rows through its public constructors and calls `parcels()`: construction is included, and
   so are its allocations and their freeing. **The Rust's `parcels()`** is that call alone, on a program made before.
 - The allocator keeps what was freed (`mallopt`: no `mmap`, no trimming), so no run of the Rust's pays for fresh pages. Without that
@@ -98,11 +100,11 @@ fn ratio(contest: &Contest, other: &str) -> String {
 
 fn kernels(figures: &Figures) -> String {
     let mut text = "## Kernels\n\nNanoseconds an item.\n\n".to_string();
-    text += "| Items | Labels, jumps | The port | The Rust from rows | Ratio | The Rust's `parcels()` | Ratio | The port's Rust types | memcpy of the rows |\n";
-    text += "|---|---|---|---|---|---|---|---|---|\n";
+    text += "| Items | Labels, jumps | The port | The Rust from rows | Ratio | The Rust's `parcels()` | Ratio | The port's Rust types | The plain engine | memcpy of the rows |\n";
+    text += "|---|---|---|---|---|---|---|---|---|---|\n";
     for Kernels { items, labels, contest } in figures.kernels.iter().chain(&figures.dense) {
         text += &format!(
-            "| {} | {} | {} | {} | {} | {} | {} | {} | {} |\n",
+            "| {} | {} | {} | {} | {} | {} | {} | {} | {} | {} |\n",
             grouped(*items),
             grouped(*labels),
             times(contest, PORT),
@@ -111,6 +113,7 @@ fn kernels(figures: &Figures) -> String {
             times(contest, PARCELS),
             ratio(contest, PARCELS),
             times(contest, PORT_TYPES),
+            times(contest, PLAIN),
             times(contest, COPY),
         );
     }
