@@ -164,7 +164,7 @@ pub fn end_of(rows: &[u32], names: &[u8], start: usize) -> usize
 }
 
 // What row i counts for.
-pub fn mark(rows: &[u32], names: &[u8], i: usize) -> Traits
+fn mark(rows: &[u32], names: &[u8], i: usize) -> Traits
     requires { ⌜ Rows (now rows) (i + 1) ⌝ }
     ensures { λ r. ⌜ r ≡ about (rowAt (now (rows .entry)) (now (names .entry)) i) ⌝ }
 {
