@@ -49,6 +49,7 @@ sample: oracle ## make the stored answers of the original Rust anew
 	@sh oracle/store
 
 compare: link ## hold the port against the original Rust: rows, lists by both engines, the Rust crate and the C example, some minutes
+	@sh oracle/build test
 	@LINK_LIB=target/staticlib sh oracle/build compare
 	@$(X86_64) $(ORACLE)/compare all
 	@sh include/test

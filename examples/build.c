@@ -1,6 +1,6 @@
 /*
  * Builds a small kernel through the C interface and prints its parcels and bytes; then one whose
- * jump leads nowhere, and prints the refusal with its name. Checks the slots of delayed jumps. Builds
+ * jump leads nowhere, and prints the refusal with its row and its name. Checks the slots of delayed jumps. Builds
  * both kernels by both engines, and compares what they answer and leave.
  */
 #include <inttypes.h>
@@ -102,13 +102,14 @@ static void print_slots(const uint32_t *rows, size_t rows_len)
     if (slots.number == 0)
         printf("every slot is filled\n");
     else
-        printf("slot check %" PRIu32 ": the jump in row %" PRId64 "\n", slots.number, slots.first);
+        printf("slot check %" PRIu32 ": the jump in row %" PRId64 "\n", slots.number, slots.third);
 }
 
 static void print_refusal(struct lhodrupesh_told told)
 {
-    printf("refused %" PRIu32 ", details %" PRId64 " and %" PRId64 ", name \"%.*s\"\n",
-           told.number, told.first, told.second, (int)told.length,
+    printf("refused %" PRIu32 " in row %" PRId64 ", details %" PRId64 " and %" PRId64
+           ", name \"%.*s\"\n",
+           told.number, told.third, told.first, told.second, (int)told.length,
            (const char *)names + told.start);
 }
 

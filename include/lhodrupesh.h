@@ -20,7 +20,13 @@
  * possibly empty, equal when the bytes are.
  *
  * REFUSALS. The README has the table of refusal numbers and their details. Details that the table
- * doesn't name are 0. Rows and parcels are numbered from 0.
+ * doesn't name are 0. Rows and parcels are numbered from 0. The third detail says which row a call on a
+ * list refuses: the refused row itself, so the loop end for 20 to 22 and 24 to 26, and the second of two
+ * labels for 11; for 23 the innermost loop start that is still open; for 12, and for 9 of a jump to a
+ * label, the jump; for 33 the jump again. It is 0 for 1, and in the calls that take no list.
+ *
+ * The third detail stands after the other details of each answer, and moved what follows: a program
+ * that was compiled with a header without it has to be compiled anew.
  */
 #ifndef LHODRUPESH_H
 #define LHODRUPESH_H
@@ -58,6 +64,7 @@ struct lhodrupesh_told {
     uint32_t count;  /* accepted: parcels or instructions, 0 in the slot check. Refused: 0 */
     int64_t first;   /* the refusal's first detail */
     int64_t second;  /* the refusal's second detail */
+    int64_t third;   /* the row that the refusal is about; 0 in refusal 1 */
     uint32_t start;  /* refusals 11, 12 and 28: the refused row's own name, */
     uint32_t length; /* as a range of the lent names. Else 0 and 0 */
 };
@@ -68,6 +75,7 @@ struct lhodrupesh_one {
     uint32_t count;     /* accepted: how many parcels, 1 to 6. Refused: 0 */
     int64_t first;      /* the refusal's first detail */
     int64_t second;     /* the refusal's second detail */
+    int64_t third;      /* 0 */
     uint16_t places[6]; /* accepted: the parcels, then zeros. Refused: zeros */
 };
 
@@ -75,6 +83,7 @@ struct lhodrupesh_one {
 struct lhodrupesh_written {
     uint64_t bytes;  /* accepted: how many bytes were written. Refused: 0 */
     int64_t first;   /* refused: the bytes lent */
+    int64_t third;   /* 0 */
     uint32_t number; /* 0: accepted. 34: bytes fewer than twice the parcels; nothing written */
     uint32_t spare;  /* 0 */
 };
@@ -143,7 +152,7 @@ struct lhodrupesh_told lhodrupesh_instruction_count(const uint32_t *rows, size_t
  * Whether, labels left out, the next two items after each delayed JumpRelative and each CJump exist
  * and are instruction items (kinds 0 to 39) other than JumpRelative, CJump and LeafReturn. Any number
  * of labels may stand around them, also labels that the build refuses. Refused: 1, then the first row
- * refusal, then 33 for the first jump of which this isn't so, its row the detail.
+ * refusal, then 33 for the first jump of which this isn't so, its row the first and the third detail.
  *   rows, rows_len     the row slice
  *   names, names_len   the names that the rows' ranges lie in
  */

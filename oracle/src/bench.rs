@@ -1,5 +1,5 @@
-//! A second reading of document 01's section on the bench program: its lines to rows and names,
-//! and the text that it prints, apart from the port. Kernels are answered by the second reading of
+//! A second reading of document 01's section on the bench program, with document 02's last field of
+//! its `refused` lines: its lines to rows and names, and the text that it prints, apart from the port. Kernels are answered by the second reading of
 //! the build, with the program's rooms.
 
 use crate::cases::{self, Case, Lengths};
@@ -70,12 +70,15 @@ fn answer(list: List) -> String {
         let difference = judge::difference(&program.parcels(), &case.list.names, &told, parcels);
         assert_eq!(difference, None, "the second reading says {told:?} of\n{}", case.text());
     }
+    let difference = judge::row_difference(&case.list, &told);
+    assert_eq!(difference, None, "the second reading says {told:?} of\n{}", case.text());
     printed(&told, parcels)
 }
 
 fn printed(told: &Told, parcels: &[u16]) -> String {
     if told.number != 0 {
-        return format!("refused\t{}\t{}\t{}\n", told.number, told.first, told.second);
+        let Told { number, first, second, third, .. } = told;
+        return format!("refused\t{number}\t{first}\t{second}\t{third}\n");
     }
     let count = told.count as usize;
     let lines = parcels[..count].iter().map(|parcel| format!("{parcel:04x}\n"));
@@ -115,7 +118,9 @@ mod tests {
         let example = text(b"48\ttop\n25\t1\t1\n49\t1\ttop\n38");
         assert_eq!(example, "ok\t7\n013e\n0002\na110\n0720\n00ff\nfffd\n0001\n");
         assert_eq!(text(b""), "ok\t0\n");
-        assert_eq!(text(b"35\t0\t8"), "refused\t15\t0\t8\n");
+        assert_eq!(text(b"35\t0\t8"), "refused\t15\t0\t8\t0\n");
+        assert_eq!(text(b"38\n38\n35\t0\t8\n38"), "refused\t15\t0\t8\t2\n");
+        assert_eq!(text(b"38\n50\t0\t1\n39"), "refused\t23\t0\t0\t1\n");
         assert_eq!(text(b"35\t0\t8\n\n"), "unread\t2\n");
     }
 

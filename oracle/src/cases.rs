@@ -24,6 +24,19 @@ impl Lengths {
             loops: needs.loops + more,
         }
     }
+
+    /// Exactly what a list takes, more of each, and around it for one buffer at a time.
+    pub fn around(list: &List) -> Vec<Self> {
+        const NEAR: usize = 4;
+        let exact = Self::for_list(list, 0);
+        let near = |need: usize| need.saturating_sub(NEAR)..=need + NEAR;
+        let mut all = vec![exact, Self::for_list(list, 7)];
+        all.extend(near(exact.parcels).map(|parcels| Self { parcels, ..exact }));
+        all.extend(near(exact.labels).map(|labels| Self { labels, ..exact }));
+        all.extend(near(exact.jumps).map(|jumps| Self { jumps, ..exact }));
+        all.extend(near(exact.loops).map(|loops| Self { loops, ..exact }));
+        all
+    }
 }
 
 #[derive(Debug, Clone)]

@@ -60,11 +60,13 @@ fn generous(list: List) -> Case {
     Case { list, lengths }
 }
 
+/// A jump from so far behind, and one from near, to the same label.
 fn back(distance: usize) -> Case {
     let mut list = List::default();
     times(&mut list, &NOP, 2);
     list.push_named(&[48], b"start");
-    fill(&mut list, distance);
+    list.push_named(&[49, 5], b"start");
+    fill(&mut list, distance - 3);
     list.push_named(&[49, 5], b"start");
     times(&mut list, &NOP, 1);
     generous(list)
@@ -89,6 +91,7 @@ fn ahead(distance: usize, undefined_first: &[bool]) -> Case {
 
 fn long_loop(offset: usize, count: u32) -> Case {
     let mut list = List::default();
+    times(&mut list, &NOP, 1);
     list.push(&row(&[50, 0, count, 1]));
     times(&mut list, &NOP, offset % 3);
     times(&mut list, &WIDE_NOP, (offset - 3) / 3 + 1);

@@ -2,6 +2,7 @@
 
 use qc_asm::{VisaError, VisaProgram};
 
+use crate::fronts;
 use crate::list::List;
 use crate::refusal::{self, Refusal};
 use crate::second::Told;
@@ -66,6 +67,16 @@ pub fn difference(
     let start = told.start as usize;
     let handed = names.get(start..start + told.length as usize);
     (handed != Some(wanted.as_bytes())).then(|| format!("the Rust names {wanted:?}"))
+}
+
+/// How the row of a build's answer differs from what the Rust says of the list's fronts. Nothing
+/// where the list doesn't fit or a name isn't a string.
+pub fn row_difference(list: &List, told: &Told) -> Option<String> {
+    if matches!(told.number, 1 | 29..=32) || list.program().is_none() {
+        return None;
+    }
+    let (row, expected) = ((told.number != 0).then_some(told.third as usize), fronts::built(list));
+    (row != expected).then(|| format!("the row refused is {row:?}, and by the Rust {expected:?}"))
 }
 
 fn accepted_difference(rust: &[u16], told: &Told, parcels: &[u16]) -> Option<String> {

@@ -4,6 +4,7 @@
 pub mod bench;
 pub mod cases;
 pub mod every_row;
+pub mod fronts;
 pub mod huge;
 pub mod judge;
 pub mod kernels;

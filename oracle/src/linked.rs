@@ -8,8 +8,8 @@ use crate::one::One;
 
 /// The port's one-instruction call.
 pub fn instruction(slice: &[u32]) -> One {
-    let c::One { number, count, first, second, places } = c::instruction(slice);
-    One { number, count, first, second, places }
+    let c::One { number, count, first, second, third, places } = c::instruction(slice);
+    One { number, count, first, second, third, places }
 }
 
 /// The same through the plain interface.
@@ -27,28 +27,28 @@ fn of_plain(refusal: Refusal) -> crate::refusal::Refusal {
 
 mod lists {
     use lhodrupesh::c;
-    use lhodrupesh::plain::{Name, Refusal};
+    use lhodrupesh::plain::{Name, Refusal, Refused};
 
     use crate::second::Told;
 
     pub fn told(told: c::Told) -> Told {
-        let c::Told { number, count, first, second, start, length } = told;
-        Told { number, count, first, second, start, length }
+        let c::Told { number, count, first, second, third, start, length } = told;
+        Told { number, count, first, second, third, start, length }
     }
 
-    pub fn of_plain(answer: Result<usize, Refusal>) -> Told {
-        let refusal = match answer {
+    pub fn of_plain(answer: Result<usize, Refused>) -> Told {
+        let refused = match answer {
             Ok(count) => return Told { count: count as u32, ..Told::default() },
-            Err(refusal) => refusal,
+            Err(refused) => refused,
         };
-        let Name { start, length } = match refusal {
+        let Name { start, length } = match refused.refusal {
             Refusal::DuplicateLabel(name)
             | Refusal::UndefinedLabel(name)
             | Refusal::LabelInLoop(name) => name,
             _ => Name { start: 0, length: 0 },
         };
-        let (first, second) = refusal.details();
-        Told { number: refusal.number(), count: 0, first, second, start, length }
+        let (first, second, third) = refused.details();
+        Told { number: refused.number(), count: 0, first, second, third, start, length }
     }
 }
 
@@ -56,7 +56,7 @@ mod lists {
 /// interface.
 pub mod whole {
     use lhodrupesh::c;
-    use lhodrupesh::plain::{self, LoopRecord, Refusal};
+    use lhodrupesh::plain::{self, LoopRecord, Refused};
 
     use super::lists::{of_plain, told};
     use crate::list::List;
@@ -66,7 +66,7 @@ pub mod whole {
     pub type OfC =
         fn(&[u32], &[u8], &mut [u16], &mut [u32], &mut [u32], &mut [LoopRecord]) -> c::Told;
     /// An engine, as the plain interface has it.
-    type OfCrate = fn(&[u32], &[u8], &mut plain::Lent) -> Result<usize, Refusal>;
+    type OfCrate = fn(&[u32], &[u8], &mut plain::Lent) -> Result<usize, Refused>;
 
     /// What a build is called in a report, and its call.
     pub type Build = (&'static str, fn(&List, &mut Lent) -> Told);
@@ -121,6 +121,15 @@ pub fn slot_check(list: &crate::list::List) -> [crate::second::Told; 2] {
     let crate::list::List { numbers, names } = list;
     let plain = plain::slot_check(numbers, names).map(|()| 0);
     [lists::told(c::slot_check(numbers, names)), lists::of_plain(plain)]
+}
+
+/// The items that errors of the crate's types are about: the build's and the parcel count's. The
+/// list's rows say items.
+pub fn items(list: &crate::list::List) -> [Option<usize>; 2] {
+    let program = crate::same::port::program(list).expect("rows that say items");
+    let built = program.parcels_or_item().err();
+    let counted = program.parcel_count_or_item().err();
+    [built, counted].map(|refused| refused.and_then(|refused| refused.item))
 }
 
 /// Each takes parcels and lent bytes, and answers as C has it.

@@ -453,7 +453,7 @@ mod tests {
             if labelled(&list) {
                 match second::slot_check(&list.numbers, &list.names, &Limits::default()) {
                     Ok(()) => filled += 1,
-                    Err(refusal) if refusal.number == 33 => not += 1,
+                    Err(refused) if refused.refusal.number == 33 => not += 1,
                     Err(_) => {}
                 }
             }

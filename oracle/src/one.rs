@@ -4,7 +4,8 @@ use crate::reading::{self, Item};
 use crate::refusal::Refusal;
 use crate::row::{Row, WIDTH};
 
-/// The answer. Refused: count and places are zero. Accepted: number and details are zero.
+/// The answer. Refused: count and places are zero. Accepted: number and details are zero. The third
+/// detail, the row in a list, is always 0.
 #[repr(C)]
 #[derive(Debug, Clone, Copy, PartialEq, Eq)]
 pub struct One {
@@ -12,6 +13,7 @@ pub struct One {
     pub count: u32,
     pub first: i64,
     pub second: i64,
+    pub third: i64,
     pub places: [u16; 6],
 }
 
@@ -19,7 +21,7 @@ impl One {
     pub fn accepted(parcels: &[u16]) -> Self {
         let mut places = [0; 6];
         places[..parcels.len()].copy_from_slice(parcels);
-        Self { number: 0, count: parcels.len() as u32, first: 0, second: 0, places }
+        Self { number: 0, count: parcels.len() as u32, first: 0, second: 0, third: 0, places }
     }
 
     pub fn refused(refusal: Refusal) -> Self {
@@ -28,14 +30,16 @@ impl One {
             count: 0,
             first: refusal.first,
             second: refusal.second,
+            third: 0,
             places: [0; 6],
         }
     }
 
-    /// `ok`, the count and the parcels in hex; or `refused`, the number and both details.
+    /// `ok`, the count and the parcels in hex; or `refused`, the number and the three details.
     pub fn text(&self) -> String {
         if self.number != 0 {
-            return format!("refused\t{}\t{}\t{}", self.number, self.first, self.second);
+            let Self { number, first, second, third, .. } = self;
+            return format!("refused\t{number}\t{first}\t{second}\t{third}");
         }
         let mut text = format!("ok\t{}", self.count);
         for parcel in &self.places[..self.count as usize] {

@@ -2,7 +2,8 @@
 
 use qc_asm::VisaError;
 
-/// A refusal's number and its two details, which are 0 where document 01 names none.
+/// A refusal's number and its two details, which are 0 where document 01 names none. Of the row,
+/// document 02's third detail, the Rust knows nothing: it stands beside a refusal, in `second`.
 #[derive(Debug, Clone, Copy, PartialEq, Eq)]
 pub struct Refusal {
     pub number: u32,

@@ -12,7 +12,7 @@ use crate::second::{self, Limits};
 /// The sample, inside what the bench program takes: lists in the bench program's lines, an empty line after each.
 pub fn sample() -> Vec<u8> {
     let mut text = Vec::new();
-    for written in [edges(), labels(), loops(), tails(), order(), rows()].concat() {
+    for written in [edges(), labels(), loops(), tails(), order(), rows(), places()].concat() {
         text.extend(spelled(&written).into_bytes());
         text.extend(b"\n");
     }
@@ -261,6 +261,45 @@ fn rows() -> Vec<String> {
         "38|34 1 38 0 0 0 0 0 0 0 96",
         "50 0 1|39|34 1 38",
         "50 0 1|39|28 7",
+    ])
+}
+
+/// A refusal in the midst of a list, away from the rows that it could be mistaken for: the first and
+/// the last one, the loop's start, the first and the last start, the outermost that is open, the short
+/// instruction, the earlier label, another jump; and behind a label, which is no instruction.
+fn places() -> Vec<String> {
+    strings(&[
+        "48 t|39|40|38",
+        "48 t|39|16 96 2|38",
+        "48 t|39|19 0 8|38",
+        "48 t|39|19 0 0 8|38",
+        "48 t|39|19 16|38",
+        "48 t|39|20 16|38",
+        "48 t|49 5 a|28 5 8388608|48 a|38",
+        "48 t|39|31|29 16777216|38",
+        "48 t|39|48 a|39|48 b|39|48 a|38|48 b",
+        "38|49 5 a|48 a|38|49 0 b|39|49 1 c|38",
+        "38|48 a|49 5 b|49 5 b|38|49 5 b|39",
+        "48 t|39|33 0 0 0 0 0 0 0 0 0 1 0 0 0 2 7 8|38",
+        "48 t|39|33 0 0 0 0 0 0 0 0 0 1 0 0 0 2 8 7|38",
+        "48 t|39|35 3 9|38",
+        "48 t|39|34 0 0 0 0 0 0 0 0 0 19 4 5|38",
+        "48 t|39|32 1 38|38",
+        "48 t|39|32 2 1 0 8 0 2 8 12|38",
+        "48 t|39|32 2 1 0 4 0 1 8 12|38",
+        "38|50 0 0|39|39|51|38",
+        "38|50 0 0|50 0 1|39|51|39|51|38",
+        "38|50 0 1|39|51|39|50 0 1|51|38",
+        "38|50 0 1|50 0 1|39|51|51|38",
+        "38|50 0 1|39|51|51|38",
+        "38|50 0 1|38|39|38|39|39|51|38",
+        "38|50 0 1|50 0 1|39|51|38|39|51|38",
+        "38|50 0 1|39|31|51|38",
+        "38|50 0 1|39|49 5 a|51|48 a",
+        "38|48 a|50 0 1|39|48 b|51|38",
+        "38|50 0 1|39|51|50 0 1|39|50 0 1|50 0 1|39|51|39|50 0 1|39|51|38",
+        "38|50 0 1|39|51|50 0 1|50 0 1|39|51|39",
+        "49 5 a|38|50 0 1|50 0 1|38",
     ])
 }
 

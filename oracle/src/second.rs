@@ -1,7 +1,7 @@
-//! A second reading of document 01's calls on lists, and of document 02's labels in delay slots,
-//! apart from the port and from the Rust's `VisaProgram`: the judge of rooms, leftovers, refusal
-//! order, slots and rows that can't be constructed, which the Rust doesn't have. One instruction's
-//! parcels are the Rust's own.
+//! A second reading of document 01's calls on lists, and of document 02's labels in delay slots and
+//! row numbers of refusals, apart from the port and from the Rust's `VisaProgram`: the judge of
+//! rooms, leftovers, refusal order, slots, row numbers and rows that can't be constructed, which the
+//! Rust doesn't have. One instruction's parcels are the Rust's own.
 
 use std::collections::HashMap;
 
@@ -44,8 +44,8 @@ pub struct Lent<'a> {
     pub loops: &'a mut [Record],
 }
 
-/// A build's answer: 0 and the parcel count; or a refusal with count 0, its details, and the
-/// refused row's own name range for 11, 12 and 28.
+/// A build's answer: 0 and the parcel count; or a refusal with count 0, its details, of which the
+/// third is the row's number, and the refused row's own name range for 11, 12 and 28.
 #[repr(C)]
 #[derive(Debug, Clone, Copy, PartialEq, Eq, Default)]
 pub struct Told {
@@ -53,30 +53,40 @@ pub struct Told {
     pub count: u32,
     pub first: i64,
     pub second: i64,
+    pub third: i64,
     pub start: u32,
     pub length: u32,
 }
 
 impl Told {
-    /// The answer of a call that counts, and names nothing.
-    pub fn of(counted: Result<usize, Refusal>) -> Self {
+    /// The answer of a call that counts.
+    pub fn of(counted: Result<usize, Refused>) -> Self {
         match counted {
             Ok(count) => Self { count: count as u32, ..Self::default() },
-            Err(refusal) => told(refusal.into()),
+            Err(refused) => told(refused),
         }
     }
 }
 
-/// A refusal, and the name that goes with it.
-#[derive(Debug, Clone, Copy)]
-struct Refused {
-    refusal: Refusal,
-    name: Option<Name>,
+/// A refusal, the number of the row that it is about, and the name that goes with it. 1 is about no
+/// row.
+#[derive(Debug, Clone, Copy, PartialEq, Eq)]
+pub struct Refused {
+    pub refusal: Refusal,
+    pub row: Option<usize>,
+    pub name: Option<Name>,
+}
+
+impl Refused {
+    /// The same refusal, about this row.
+    fn about(self, row: usize) -> Self {
+        Self { row: Some(row), ..self }
+    }
 }
 
 impl From<Refusal> for Refused {
     fn from(refusal: Refusal) -> Self {
-        Self { refusal, name: None }
+        Self { refusal, row: None, name: None }
     }
 }
 
@@ -89,7 +99,7 @@ fn refuse_with<T>(number: u32, detail: i64) -> Result<T, Refused> {
 }
 
 fn refuse_name<T>(number: u32, name: Name) -> Result<T, Refused> {
-    Err(Refused { refusal: Refusal::plain(number), name: Some(name) })
+    Err(Refused { name: Some(name), ..Refusal::plain(number).into() })
 }
 
 /// The build.
@@ -145,6 +155,7 @@ fn told(refused: Refused) -> Told {
         count: 0,
         first: refused.refusal.first,
         second: refused.refusal.second,
+        third: refused.row.unwrap_or(0) as i64,
         start: name.start,
         length: name.length,
     }
@@ -193,6 +204,7 @@ struct Entry {
 }
 
 struct Open {
+    row: usize,
     place: usize,
     first: usize,
     count: LoopCount,
@@ -219,7 +231,9 @@ fn rows<'a>(numbers: &'a [u32], limits: &Limits) -> Result<impl Iterator<Item = 
     Ok(rows.map(|row| <&Row>::try_from(row).expect("seventeen numbers")))
 }
 
-/// Refusal 1, then the rows in turn, then 23, then the jumps in item order.
+/// Refusal 1, then the rows in turn, then 23, then the jumps in item order. What a row is refused
+/// for is about that row, 23 about the start of the innermost loop that is open, and what a waiting
+/// jump is refused for about the jump's row.
 fn walk(
     numbers: &[u32],
     names: &[u8],
@@ -242,13 +256,14 @@ fn walk(
 impl Walk<'_> {
     fn list(&mut self, numbers: &[u32], limits: &Limits) -> Result<(), Refused> {
         for (number, row) in rows(numbers, limits)?.enumerate() {
-            self.row(number, row)?;
+            self.row(number, row).map_err(|refused| refused.about(number))?;
         }
-        if !self.open.is_empty() {
-            return refuse(23);
+        if let Some(innermost) = self.open.last() {
+            return Err(Refused::from(Refusal::plain(23)).about(innermost.row));
         }
         for waiting in 0..self.taken.jumps.len() {
-            self.settle(waiting)?;
+            let row = self.taken.jumps[waiting].row;
+            self.settle(waiting).map_err(|refused| refused.about(row))?;
         }
         Ok(())
     }
@@ -258,7 +273,7 @@ impl Walk<'_> {
             Item::Instruction(instruction) => self.instruction(row[0], instruction),
             Item::Label(name) => self.label(name),
             Item::Jump(condition, name) => self.jump(number, condition, name),
-            Item::LoopStart(count, mode) => self.loop_start(count, mode),
+            Item::LoopStart(count, mode) => self.loop_start(number, count, mode),
             Item::LoopEnd => self.loop_end(),
         }
     }
@@ -330,14 +345,14 @@ impl Walk<'_> {
     }
 
     /// 32, 29.
-    fn loop_start(&mut self, count: LoopCount, mode: LoopMode) -> Result<(), Refused> {
+    fn loop_start(&mut self, row: usize, count: LoopCount, mode: LoopMode) -> Result<(), Refused> {
         if self.open.len() == self.rooms.loops {
             return refuse_with(32, self.rooms.loops as i64);
         }
         self.room_for(3)?;
         let place = self.here();
         self.emit(&[0; 3]);
-        self.open.push(Open { place, first: self.entries.len(), count, mode });
+        self.open.push(Open { row, place, first: self.entries.len(), count, mode });
         self.taken.deepest = self.taken.deepest.max(self.open.len());
         Ok(())
     }
@@ -426,42 +441,47 @@ fn full_width(word: u64) -> [u16; 3] {
 }
 
 /// How many parcels the list takes: row by row, the row refusal and then whether it encodes.
-pub fn parcel_count(numbers: &[u32], names: &[u8], limits: &Limits) -> Result<usize, Refusal> {
-    let mut count = 0;
-    for row in rows(numbers, limits)? {
-        count += match reading::item(row, names.len())? {
+pub fn parcel_count(numbers: &[u32], names: &[u8], limits: &Limits) -> Result<usize, Refused> {
+    total(numbers, limits, |row| {
+        Ok(match reading::item(row, names.len())? {
             Item::Instruction(instruction) => encode(instruction)?.len(),
             Item::Jump(..) | Item::LoopStart(..) => 3,
             Item::Label(_) | Item::LoopEnd => 0,
-        };
-    }
-    Ok(count)
+        })
+    })
 }
 
 /// How many instructions the list has: a `LeafReturn` is four.
-pub fn instruction_count(numbers: &[u32], names: &[u8], limits: &Limits) -> Result<usize, Refusal> {
-    let mut count = 0;
-    for row in rows(numbers, limits)? {
-        count += match reading::item(row, names.len())? {
+pub fn instruction_count(numbers: &[u32], names: &[u8], limits: &Limits) -> Result<usize, Refused> {
+    total(numbers, limits, |row| {
+        Ok(match reading::item(row, names.len())? {
             Item::Instruction(VisaInstruction::LeafReturn) => 4,
             Item::Instruction(_) | Item::Jump(..) | Item::LoopStart(..) => 1,
             Item::Label(_) | Item::LoopEnd => 0,
-        };
-    }
-    Ok(count)
+        })
+    })
+}
+
+/// What the rows come to in sum, or the first that is refused.
+fn total(
+    numbers: &[u32],
+    limits: &Limits,
+    of: impl Fn(&Row) -> Result<usize, Refusal>,
+) -> Result<usize, Refused> {
+    let each = rows(numbers, limits)?.enumerate();
+    each.map(|(number, row)| of(row).map_err(|refusal| Refused::from(refusal).about(number))).sum()
 }
 
 /// Refusal 1, the first row refusal, then 33 for the first delayed jump or `CJump` after which,
-/// labels left out, the next two items aren't both instructions that stay.
-pub fn slot_check(numbers: &[u32], names: &[u8], limits: &Limits) -> Result<(), Refusal> {
+/// labels left out, the next two items aren't both instructions that stay. 33 is about the jump's
+/// row, as its detail says.
+pub fn slot_check(numbers: &[u32], names: &[u8], limits: &Limits) -> Result<(), Refused> {
+    instruction_count(numbers, names, limits)?; // it has the same refusals as come before 33
     let rows: Vec<&Row> = rows(numbers, limits)?.collect();
-    for row in &rows {
-        reading::item(row, names.len())?;
-    }
     for (number, row) in rows.iter().enumerate() {
         let has_slots = row[0] == 29 || (row[0] == 28 && row[3] == 1);
         if has_slots && !fill_slots(&rows[number + 1..]) {
-            return Err(Refusal::of(33, number as i64));
+            return Err(Refused::from(Refusal::of(33, number as i64)).about(number));
         }
     }
     Ok(())

@@ -190,7 +190,7 @@ mod tests {
         let (mut checked, mut built) = (HashSet::new(), HashSet::new());
         for list in lists() {
             let verdict = second::slot_check(&list.numbers, &list.names, &Limits::default());
-            checked.insert(verdict.map_or_else(|refusal| refusal.number, |()| 0));
+            checked.insert(verdict.map_or_else(|refused| refused.refusal.number, |()| 0));
             let lengths = Lengths::for_list(&list, 2);
             built.insert(cases::second(&Case { list, lengths }).0.number);
         }

@@ -15,6 +15,10 @@
 /// let nop = [38, 0, 0, 0, 0, 0, 0, 0, 0, 0, 0, 0, 0, 0, 0, 0, 0];
 /// let told = lhodrupesh::c::parcel_count(&nop, &[]);
 /// assert_eq!((told.number, told.count), (0, 1));
+///
+/// let unknown = [40, 0, 0, 0, 0, 0, 0, 0, 0, 0, 0, 0, 0, 0, 0, 0, 0];
+/// let told = lhodrupesh::c::parcel_count([nop, unknown].as_flattened(), &[]);
+/// assert_eq!((told.number, told.third), (2, 1));
 /// ```
 #[repr(C)]
 #[derive(Debug, Clone, Copy, PartialEq, Eq, Default)]
@@ -27,6 +31,8 @@ pub struct Told {
     pub first: i64,
     /// The refusal's second detail, 0 where it has none.
     pub second: i64,
+    /// The row that the refusal is about, from 0; 0 in refusal 1.
+    pub third: i64,
     /// Where the refused row's name starts in the names.
     pub start: u32,
     /// How many bytes the name has.
@@ -51,6 +57,8 @@ pub struct One {
     pub first: i64,
     /// The refusal's second detail, 0 where it has none.
     pub second: i64,
+    /// 0.
+    pub third: i64,
     /// The parcels, then zeros.
     pub places: [u16; 6],
 }
@@ -68,6 +76,8 @@ pub struct Written {
     pub bytes: u64,
     /// The refusal's detail: the bytes lent.
     pub first: i64,
+    /// 0.
+    pub third: i64,
     /// 0, or 34.
     pub number: u32,
     /// 0.

@@ -2,7 +2,7 @@
 
 use std::fmt;
 
-use crate::plain::{self, Refusal};
+use crate::plain::{self, Refusal, Refused};
 
 /// A register number that names no register.
 ///
@@ -190,6 +190,47 @@ impl fmt::Display for VisaError {
 
 impl std::error::Error for VisaError {}
 
+/// An error of a kernel, and the item that it is about: what a list's refusal says, with `qc_asm`'s
+/// error as it is. `qc_asm` has nothing of this name.
+///
+/// ```
+/// use lhodrupesh::{Condition, ItemError, VisaError, VisaInstruction, VisaProgram};
+///
+/// let mut program = VisaProgram::new();
+/// program.push(VisaInstruction::Nop);
+/// program.jump(Condition::Always, "end");
+/// let refused = program.parcels_or_item().unwrap_err();
+/// let error = VisaError::UndefinedLabel("end".to_string());
+/// assert_eq!(refused, ItemError { error, item: Some(1) });
+/// assert_eq!(refused.to_string(), "item 1: undefined VISA label \"end\"");
+/// ```
+#[derive(Debug, Clone, PartialEq, Eq)]
+pub struct ItemError {
+    /// What [`VisaProgram::parcels`](crate::VisaProgram::parcels) gives.
+    pub error: VisaError,
+    /// The item, from 0 in the order in which they were added: the refused one, of a loop without an
+    /// end the start, of a jump that leads nowhere or too far the jump. None where the kernel has too
+    /// many items or too long names.
+    pub item: Option<usize>,
+}
+
+impl fmt::Display for ItemError {
+    fn fmt(&self, out: &mut fmt::Formatter<'_>) -> fmt::Result {
+        if let Some(item) = self.item {
+            write!(out, "item {item}: ")?;
+        }
+        self.error.fmt(out)
+    }
+}
+
+impl std::error::Error for ItemError {}
+
+impl From<ItemError> for VisaError {
+    fn from(refused: ItemError) -> Self {
+        refused.error
+    }
+}
+
 impl From<Error> for VisaError {
     fn from(error: Error) -> Self {
         Self::Encoding(error)
@@ -246,6 +287,11 @@ pub(crate) fn of(refusal: Refusal, names: &[u8]) -> VisaError {
             unreachable!("rows of this crate's making don't meet it: {refusal}")
         }
     }
+}
+
+/// The same of a list whose first row is this item of the kernel.
+pub(crate) fn in_item(refused: Refused, names: &[u8], first: usize) -> ItemError {
+    ItemError { error: of(refused.refusal, names), item: refused.row.map(|row| first + row) }
 }
 
 pub(crate) fn does_not_fit(what: &'static str, most: usize) -> VisaError {

@@ -20,9 +20,11 @@
 //! assert_eq!(count_down(), Ok(expected.to_vec()));
 //! ```
 //!
+//! Which item an error is about, `qc_asm` doesn't say; [`VisaProgram::parcels_or_item`] does.
+//!
 //! Beside them stand two more ways to the same library. [`plain`] builds rows of seventeen numbers
-//! into buffers that the caller lends, allocates nothing, and refuses with a [`plain::Refusal`];
-//! [`c`] is the C interface itself, each function behind a safe one. In both, `build_plain` is the
+//! into buffers that the caller lends, allocates nothing, and refuses with a [`plain::Refused`]; [`c`]
+//! is the C interface itself, each function behind a safe one. In both, `build_plain` is the
 //! build by the library's second engine; all else is built by the first.
 //!
 //! Parcels, counts, bytes and refusals come from the library, which is proved; this crate, which
@@ -47,7 +49,7 @@ mod row;
 mod visa;
 
 pub use compute::{AluOp, Compute, FloatMulAlu};
-pub use error::{Error, VisaError};
+pub use error::{Error, ItemError, VisaError};
 pub use instruction::{Instruction, INSTRUCTION_BYTES};
 pub use program::VisaProgram;
 pub use register::{IndexRegister, ModifyRegister, Register, UniversalRegister};

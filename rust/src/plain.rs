@@ -2,7 +2,7 @@
 //! that the caller lends. Nothing is allocated.
 //!
 //! ```
-//! use lhodrupesh::plain::{self, Lent, LoopRecord, Name, Refusal};
+//! use lhodrupesh::plain::{self, Lent, LoopRecord, Name, Refusal, Refused};
 //!
 //! // A label, IntegerSubOne R1, a jump to the label unless equal, Nop.
 //! let rows = [
@@ -23,19 +23,23 @@
 //! assert_eq!(labels, [0, 3, 0]);
 //! assert_eq!(parcels[..4], [0x013e, 0x0002, 0xa110, 0x0720]);
 //!
-//! // Without the label the jump leads nowhere: the refusal names it.
+//! // Without the label the jump, in row 1 now, leads nowhere: the refusal names both.
 //! let mut lent = Lent { parcels: &mut parcels, labels: &mut [], jumps: &mut jumps, loops: &mut [] };
-//! let refusal = plain::build(rows[1..].as_flattened(), b"top", &mut lent).unwrap_err();
-//! assert_eq!(refusal, Refusal::UndefinedLabel(Name { start: 0, length: 3 }));
-//! assert_eq!((refusal.number(), refusal.name(b"top")), (12, &b"top"[..]));
+//! let refused = plain::build(rows[1..].as_flattened(), b"top", &mut lent).unwrap_err();
+//! let refusal = Refusal::UndefinedLabel(Name { start: 0, length: 3 });
+//! assert_eq!(refused, Refused { refusal, row: Some(1) });
+//! assert_eq!((refused.number(), refused.name(b"top")), (12, &b"top"[..]));
 //! ```
+//!
+//! A call on a list refuses with a [`Refused`], which has the row; the calls on one instruction and on
+//! parcels with a [`Refusal`].
 
 use std::ops::Deref;
 
 use crate::c;
 
 pub use crate::c::LoopRecord;
-pub use crate::refusal::{Name, Refusal};
+pub use crate::refusal::{Name, Refusal, Refused};
 
 /// The numbers of a row.
 ///
@@ -64,7 +68,7 @@ pub const JUMP_ENTRY: usize = 2;
 /// use lhodrupesh::plain::{self, Refusal, MOST_ROWS, ROW};
 ///
 /// let rows = vec![0; ROW * (MOST_ROWS + 1)];
-/// assert_eq!(plain::parcel_count(&rows, &[]), Err(Refusal::Rows));
+/// assert_eq!(plain::parcel_count(&rows, &[]), Err(Refusal::Rows.into()));
 /// ```
 pub const MOST_ROWS: usize = 4_194_304;
 /// The most parcels of a build.
@@ -169,14 +173,15 @@ pub fn instruction(row: &[u32]) -> Result<Parcels, Refusal> {
 /// Builds a list into the lent buffers, and answers how many parcels it took.
 ///
 /// ```
-/// use lhodrupesh::plain::{self, Lent, Refusal};
+/// use lhodrupesh::plain::{self, Lent, Refusal, Refused};
 ///
 /// let wide_nop = [39, 0, 0, 0, 0, 0, 0, 0, 0, 0, 0, 0, 0, 0, 0, 0, 0];
 /// let mut lent =
-///     Lent { parcels: &mut [0; 2], labels: &mut [], jumps: &mut [], loops: &mut [] };
-/// assert_eq!(plain::build(&wide_nop, &[], &mut lent), Err(Refusal::NoRoomForParcels(2)));
+///     Lent { parcels: &mut [0; 5], labels: &mut [], jumps: &mut [], loops: &mut [] };
+/// let built = plain::build([wide_nop, wide_nop].as_flattened(), &[], &mut lent);
+/// assert_eq!(built, Err(Refused { refusal: Refusal::NoRoomForParcels(5), row: Some(1) }));
 /// ```
-pub fn build(rows: &[u32], names: &[u8], lent: &mut Lent<'_>) -> Result<usize, Refusal> {
+pub fn build(rows: &[u32], names: &[u8], lent: &mut Lent<'_>) -> Result<usize, Refused> {
     let Lent { parcels, labels, jumps, loops } = lent;
     counted(c::build(rows, names, parcels, labels, jumps, loops))
 }
@@ -205,7 +210,7 @@ pub fn build(rows: &[u32], names: &[u8], lent: &mut Lent<'_>) -> Result<usize, R
 /// assert_eq!(built[0], built[1]);
 /// assert_eq!((&built[1].0, built[1].1), (&Ok(6), [0x0c00, 0x1080, 0x0003, 0, 0, 0, 7, 7]));
 /// ```
-pub fn build_plain(rows: &[u32], names: &[u8], lent: &mut Lent<'_>) -> Result<usize, Refusal> {
+pub fn build_plain(rows: &[u32], names: &[u8], lent: &mut Lent<'_>) -> Result<usize, Refused> {
     let Lent { parcels, labels, jumps, loops } = lent;
     counted(c::build_plain(rows, names, parcels, labels, jumps, loops))
 }
@@ -213,20 +218,32 @@ pub fn build_plain(rows: &[u32], names: &[u8], lent: &mut Lent<'_>) -> Result<us
 /// How many parcels a list takes. Labels, jumps and loops aren't looked into.
 ///
 /// ```
+/// use lhodrupesh::plain::{self, Refusal, Refused};
+///
 /// let loop_start = [50, 0, 1, 0, 0, 0, 0, 0, 0, 0, 0, 0, 0, 0, 0, 0, 0];
-/// assert_eq!(lhodrupesh::plain::parcel_count(&loop_start, &[]), Ok(3));
+/// assert_eq!(plain::parcel_count(&loop_start, &[]), Ok(3));
+///
+/// let through_i8 = [19, 2, 8, 0, 0, 0, 0, 0, 0, 0, 0, 0, 0, 0, 0, 0, 0];
+/// let counted = plain::parcel_count([loop_start, through_i8].as_flattened(), &[]);
+/// assert_eq!(counted, Err(Refused { refusal: Refusal::InvalidDmIndex(8), row: Some(1) }));
 /// ```
-pub fn parcel_count(rows: &[u32], names: &[u8]) -> Result<usize, Refusal> {
+pub fn parcel_count(rows: &[u32], names: &[u8]) -> Result<usize, Refused> {
     counted(c::parcel_count(rows, names))
 }
 
 /// How many instructions a list has: jumps and loop starts are one each, a `LeafReturn` is four.
 ///
 /// ```
+/// use lhodrupesh::plain::{self, Refusal, Refused};
+///
 /// let loop_end = [51, 0, 0, 0, 0, 0, 0, 0, 0, 0, 0, 0, 0, 0, 0, 0, 0];
-/// assert_eq!(lhodrupesh::plain::instruction_count(&loop_end, &[]), Ok(0));
+/// assert_eq!(plain::instruction_count(&loop_end, &[]), Ok(0));
+///
+/// let unknown = [52, 0, 0, 0, 0, 0, 0, 0, 0, 0, 0, 0, 0, 0, 0, 0, 0];
+/// let counted = plain::instruction_count([loop_end, unknown].as_flattened(), &[]);
+/// assert_eq!(counted, Err(Refused { refusal: Refusal::Row, row: Some(1) }));
 /// ```
-pub fn instruction_count(rows: &[u32], names: &[u8]) -> Result<usize, Refusal> {
+pub fn instruction_count(rows: &[u32], names: &[u8]) -> Result<usize, Refused> {
     counted(c::instruction_count(rows, names))
 }
 
@@ -234,20 +251,21 @@ pub fn instruction_count(rows: &[u32], names: &[u8]) -> Result<usize, Refusal> {
 /// are instructions that stay.
 ///
 /// ```
-/// use lhodrupesh::plain::{self, Refusal};
+/// use lhodrupesh::plain::{self, Refusal, Refused};
 ///
+/// let unfilled = |row: u32| Refused { refusal: Refusal::Slot(row), row: Some(row as usize) };
 /// let c_jump = [29, 0, 0, 0, 0, 0, 0, 0, 0, 0, 0, 0, 0, 0, 0, 0, 0];
 /// let nop = [38, 0, 0, 0, 0, 0, 0, 0, 0, 0, 0, 0, 0, 0, 0, 0, 0];
 /// assert_eq!(plain::slot_check([c_jump, nop, nop].as_flattened(), &[]), Ok(()));
-/// assert_eq!(plain::slot_check([nop, c_jump, nop].as_flattened(), &[]), Err(Refusal::Slot(1)));
+/// assert_eq!(plain::slot_check([nop, c_jump, nop].as_flattened(), &[]), Err(unfilled(1)));
 ///
 /// // A label on the second slot is passed over, a loop end there is not.
 /// let label = [48, 0, 4, 0, 0, 0, 0, 0, 0, 0, 0, 0, 0, 0, 0, 0, 0];
 /// let loop_end = [51, 0, 0, 0, 0, 0, 0, 0, 0, 0, 0, 0, 0, 0, 0, 0, 0];
 /// let check = |second| plain::slot_check([c_jump, nop, second, nop].as_flattened(), b"here");
-/// assert_eq!((check(label), check(loop_end)), (Ok(()), Err(Refusal::Slot(0))));
+/// assert_eq!((check(label), check(loop_end)), (Ok(()), Err(unfilled(0))));
 /// ```
-pub fn slot_check(rows: &[u32], names: &[u8]) -> Result<(), Refusal> {
+pub fn slot_check(rows: &[u32], names: &[u8]) -> Result<(), Refused> {
     counted(c::slot_check(rows, names)).map(|_| ())
 }
 
@@ -269,9 +287,9 @@ pub fn bytes(parcels: &[u16], bytes: &mut [u8]) -> Result<usize, Refusal> {
     }
 }
 
-fn counted(told: c::Told) -> Result<usize, Refusal> {
+fn counted(told: c::Told) -> Result<usize, Refused> {
     match told.number {
         0 => Ok(told.count as usize),
-        _ => Err(Refusal::told(&told)),
+        _ => Err(Refused::told(&told)),
     }
 }

@@ -3,7 +3,7 @@
 use crate::plain::{self, Lent, LoopRecord, JUMP_ENTRY, LABEL_ENTRY, ROW};
 use crate::row::{self, Row};
 use crate::visa::{self, Condition, LoopCount, LoopMode, VisaInstruction};
-use crate::{error, VisaError};
+use crate::{error, ItemError, VisaError};
 
 /// A kernel: instructions, labels, jumps to them, and counted loops.
 ///
@@ -149,11 +149,26 @@ impl VisaProgram {
     /// assert_eq!(program.parcel_count(), Ok(3));
     /// ```
     pub fn parcel_count(&self) -> Result<usize, VisaError> {
-        let count = |rows| {
+        Ok(self.parcel_count_or_item()?)
+    }
+
+    /// The same, and with an error the item that it is about. `qc_asm` has nothing of this name.
+    ///
+    /// ```
+    /// use lhodrupesh::{VisaInstruction, VisaProgram};
+    ///
+    /// let mut program = VisaProgram::new();
+    /// program.loop_end();
+    /// program.push(VisaInstruction::CJump { target: 0x100_0000 });
+    /// let refused = program.parcel_count_or_item().unwrap_err();
+    /// assert_eq!((refused.item, Err(refused.error)), (Some(1), program.parcel_count()));
+    /// ```
+    pub fn parcel_count_or_item(&self) -> Result<usize, ItemError> {
+        let count = |(chunk, rows)| {
             plain::parcel_count(rows, &self.names)
-                .map_err(|refusal| error::of(refusal, &self.names))
+                .map_err(|refused| error::in_item(refused, &self.names, chunk * plain::MOST_ROWS))
         };
-        self.chunks().map(count).sum()
+        self.chunks().enumerate().map(count).sum()
     }
 
     /// Builds the kernel.
@@ -166,8 +181,27 @@ impl VisaProgram {
     /// assert_eq!(program.parcels(), Ok(vec![0x0001]));
     /// ```
     pub fn parcels(&self) -> Result<Vec<u16>, VisaError> {
+        Ok(self.parcels_or_item()?)
+    }
+
+    /// The same, and with an error the item that it is about. `qc_asm` has nothing of this name.
+    ///
+    /// ```
+    /// use lhodrupesh::{LoopCount, LoopMode, VisaError, VisaInstruction, VisaProgram};
+    ///
+    /// let mut program = VisaProgram::new();
+    /// program.push(VisaInstruction::Nop);
+    /// program.loop_begin(LoopCount::Immediate(16), LoopMode::F1Active);
+    /// program.push(VisaInstruction::WideNop);
+    /// let refused = program.parcels_or_item().unwrap_err();
+    /// assert_eq!((refused.item, refused.error), (Some(1), VisaError::UnclosedLoop));
+    /// program.loop_end();
+    /// assert_eq!(program.parcels_or_item().map(|parcels| parcels.len()), Ok(7));
+    /// ```
+    pub fn parcels_or_item(&self) -> Result<Vec<u16>, ItemError> {
         if self.names.len() > MOST_NAME_BYTES {
-            return Err(error::does_not_fit("bytes of names", MOST_NAME_BYTES));
+            let error = error::does_not_fit("bytes of names", MOST_NAME_BYTES);
+            return Err(ItemError { error, item: None });
         }
         let mut parcels = vec![0; self.most_parcels.min(plain::MOST_PARCELS)];
         let mut labels = vec![0; LABEL_ENTRY * self.labels.min(plain::MOST_LABELS)];
@@ -180,7 +214,7 @@ impl VisaProgram {
             loops: &mut loops,
         };
         let count = plain::build(&self.rows, &self.names, &mut lent)
-            .map_err(|refusal| error::of(refusal, &self.names))?;
+            .map_err(|refused| error::in_item(refused, &self.names, 0))?;
         parcels.truncate(count);
         Ok(parcels)
     }
@@ -201,7 +235,7 @@ impl VisaProgram {
     /// The kernel's rows, for the plain interface. `qc_asm` has nothing of this name.
     ///
     /// ```
-    /// use lhodrupesh::plain::{self, Refusal};
+    /// use lhodrupesh::plain;
     /// use lhodrupesh::{VisaInstruction, VisaProgram};
     ///
     /// let mut program = VisaProgram::new();
@@ -209,7 +243,7 @@ impl VisaProgram {
     /// program.push(VisaInstruction::Nop);
     /// program.label("second slot");
     /// let check = |kernel: &VisaProgram| plain::slot_check(kernel.rows(), kernel.names());
-    /// assert_eq!(check(&program), Err(Refusal::Slot(0)));
+    /// assert_eq!(check(&program).unwrap_err().row, Some(0));
     /// program.push(VisaInstruction::Nop);
     /// assert_eq!(check(&program), Ok(()));
     /// ```

@@ -32,7 +32,8 @@ impl Name {
     }
 }
 
-/// Why a call refuses. [`Refusal::number`] and [`Refusal::details`] give document 01's numbers.
+/// Why a call refuses. [`Refusal::number`] and [`Refusal::details`] give document 01's numbers. A call
+/// on a list says beside it which row it is about: [`Refused`].
 ///
 /// ```
 /// use lhodrupesh::plain::{self, Refusal};
@@ -254,11 +255,6 @@ impl Refusal {
         }
     }
 
-    pub(crate) fn told(told: &Told) -> Self {
-        let Told { number, first, second, start, length, .. } = *told;
-        Self::of(Answer { number, first, second, name: Name { start, length } })
-    }
-
     pub(crate) fn one(one: &One) -> Self {
         let One { number, first, second, .. } = *one;
         Self::of(Answer { number, first, second, name: Name { start: 0, length: 0 } })
@@ -280,6 +276,102 @@ impl fmt::Display for Refusal {
 
 impl std::error::Error for Refusal {}
 
+/// Why a call on a list refuses, and which row the refusal is about.
+///
+/// ```
+/// use lhodrupesh::plain::{self, Refusal, Refused};
+///
+/// let nop = [38, 0, 0, 0, 0, 0, 0, 0, 0, 0, 0, 0, 0, 0, 0, 0, 0];
+/// let mixed = [35, 3, 9, 0, 0, 0, 0, 0, 0, 0, 0, 0, 0, 0, 0, 0, 0];
+/// let Refused { refusal, row } =
+///     plain::parcel_count([nop, nop, mixed].as_flattened(), &[]).unwrap_err();
+/// assert_eq!((refusal, row), (Refusal::MixedDag { index: 3, modifier: 9 }, Some(2)));
+/// ```
+#[derive(Debug, Clone, Copy, PartialEq, Eq, Hash)]
+pub struct Refused {
+    /// Why.
+    pub refusal: Refusal,
+    /// The row, from 0: the refused one, of a loop without an end the start, of a jump that leads
+    /// nowhere or too far the jump. Refusal 1 is about no row.
+    pub row: Option<usize>,
+}
+
+impl Refused {
+    /// Document 01's number.
+    ///
+    /// ```
+    /// use lhodrupesh::plain::{Refusal, Refused};
+    ///
+    /// assert_eq!(Refused { refusal: Refusal::BranchInLoop, row: Some(4) }.number(), 27);
+    /// ```
+    pub fn number(self) -> u32 {
+        self.refusal.number()
+    }
+
+    /// The three details as the C interface and the bench program have them: document 01's two, then
+    /// the row, 0 where there is none.
+    ///
+    /// ```
+    /// use lhodrupesh::plain::{Refusal, Refused};
+    ///
+    /// let refusal = Refusal::MixedDag { index: 3, modifier: 9 };
+    /// assert_eq!(Refused { refusal, row: Some(17) }.details(), (3, 9, 17));
+    /// assert_eq!(Refused { refusal: Refusal::Rows, row: None }.details(), (0, 0, 0));
+    /// ```
+    pub fn details(self) -> (i64, i64, i64) {
+        let (first, second) = self.refusal.details();
+        (first, second, self.row.unwrap_or(0) as i64)
+    }
+
+    /// The name that goes with refusals 11, 12 and 28, as that part of the names; an empty one with
+    /// all others.
+    ///
+    /// ```
+    /// use lhodrupesh::plain::{Name, Refusal, Refused};
+    ///
+    /// let refusal = Refusal::UndefinedLabel(Name { start: 0, length: 3 });
+    /// assert_eq!(Refused { refusal, row: Some(1) }.name(b"end"), b"end");
+    /// ```
+    pub fn name(self, names: &[u8]) -> &[u8] {
+        self.refusal.name(names)
+    }
+
+    pub(crate) fn told(told: &Told) -> Self {
+        let Told { number, first, second, third, start, length, .. } = *told;
+        let refusal = Refusal::of(Answer { number, first, second, name: Name { start, length } });
+        let row = (refusal != Refusal::Rows).then_some(third as usize);
+        Self { refusal, row }
+    }
+}
+
+impl From<Refusal> for Refused {
+    /// A refusal of a call that takes no list: about no row.
+    ///
+    /// ```
+    /// use lhodrupesh::plain::{self, Refusal, Refused};
+    ///
+    /// fn parcels_of_both(row: &[u32]) -> Result<(usize, usize), Refused> {
+    ///     Ok((plain::instruction(row)?.len(), plain::parcel_count(row, &[])?))
+    /// }
+    ///
+    /// assert_eq!(parcels_of_both(&[0; 17]), Ok((3, 3)));
+    /// assert_eq!(parcels_of_both(&[0; 16]), Err(Refused { refusal: Refusal::Rows, row: None }));
+    /// ```
+    fn from(refusal: Refusal) -> Self {
+        Self { refusal, row: None }
+    }
+}
+
+impl fmt::Display for Refused {
+    /// `refused`, the number and the three details.
+    fn fmt(&self, out: &mut fmt::Formatter<'_>) -> fmt::Result {
+        let (first, second, third) = self.details();
+        write!(out, "refused {} {first} {second} {third}", self.number())
+    }
+}
+
+impl std::error::Error for Refused {}
+
 #[cfg(test)]
 mod tests {
     use super::*;
@@ -295,6 +387,20 @@ mod tests {
             let named = refusal.name(b"......the name");
             assert_eq!(named == b".the n", [11, 12, 28].contains(&number), "{refusal:?}");
         }
+    }
+
+    #[test]
+    fn every_refusal_of_a_list_but_the_first_has_its_row() {
+        for number in 1..=33 {
+            for third in [0, 8, 4_194_303] {
+                let refused = Refused::told(&Told { number, third, ..Told::default() });
+                let row = (number != 1).then_some(third as usize);
+                assert_eq!((refused.number(), refused.row), (number, row));
+                assert_eq!(refused.details().2, if number == 1 { 0 } else { third });
+            }
+        }
+        let told = Told { number: 15, first: 3, second: 9, third: 17, ..Told::default() };
+        assert_eq!(Refused::told(&told).to_string(), "refused 15 3 9 17");
     }
 
     #[test]

@@ -1,10 +1,10 @@
 //! Document 01's kernels on the edge, through the types and through rows.
 
-use lhodrupesh::plain::{self, Lent, LoopRecord, Refusal};
+use lhodrupesh::plain::{self, Lent, LoopRecord, Refusal, Refused};
 use lhodrupesh::{
-    AluOp, Compute, Condition, DataAccess, Direction, FloatMulAlu, IndexRegister, LoopCount,
-    LoopMode, MemoryAccess, ModifyRegister, Register, UniversalRegister, Update, VisaError,
-    VisaInstruction, VisaProgram,
+    AluOp, Compute, Condition, DataAccess, Direction, FloatMulAlu, IndexRegister, ItemError,
+    LoopCount, LoopMode, MemoryAccess, ModifyRegister, Register, UniversalRegister, Update,
+    VisaError, VisaInstruction, VisaProgram,
 };
 
 fn r(index: u8) -> Register {
@@ -21,6 +21,10 @@ fn m(index: u8) -> ModifyRegister {
 
 fn u(code: u8) -> UniversalRegister {
     UniversalRegister::new(code).unwrap()
+}
+
+fn refused<T>(refusal: Refusal, row: usize) -> Result<T, Refused> {
+    Err(Refused { refusal, row: Some(row) })
 }
 
 fn load(offset: i32) -> VisaInstruction {
@@ -168,7 +172,7 @@ fn loops_end_on_instructions_of_their_own() {
 }
 
 /// What the plain engine builds of a program, in enough room.
-fn by_the_plain_engine(program: &VisaProgram) -> Result<Vec<u16>, Refusal> {
+fn by_the_plain_engine(program: &VisaProgram) -> Result<Vec<u16>, Refused> {
     let (mut parcels, mut labels, mut jumps) = (vec![7; 256], [7; 12], [7; 8]);
     let mut loops = [LoopRecord::default(); 4];
     let mut lent =
@@ -183,7 +187,7 @@ fn the_plain_engine_builds_what_the_types_build() {
     use VisaInstruction as V;
     let mut program = looped(&[&[V::Nop, V::WideNop], &[V::WideNop; 3], &[load(64)]]);
     assert_eq!(program.parcels(), Err(VisaError::LoopTailNotFullWidth(9)));
-    assert_eq!(by_the_plain_engine(&program), Err(Refusal::LoopTailNotFullWidth(9)));
+    assert_eq!(by_the_plain_engine(&program), refused(Refusal::LoopTailNotFullWidth(9), 5));
     program = looped(&[&[V::WideNop; 12], &[V::WideNop; 3], &[load(64)]]);
     program.label("back");
     program.push(V::LeafReturn);
@@ -195,8 +199,9 @@ fn the_plain_engine_builds_what_the_types_build() {
     assert_eq!(by_the_plain_engine(&program), Ok(parcels));
     program.jump(Condition::Sv, "off");
     assert_eq!(program.parcels(), Err(VisaError::UndefinedLabel("off".to_string())));
-    let refusal = by_the_plain_engine(&program).unwrap_err();
-    assert_eq!((refusal.number(), refusal.name(program.names())), (12, &b"off"[..]));
+    let refused = by_the_plain_engine(&program).unwrap_err();
+    assert_eq!((refused.number(), refused.name(program.names())), (12, &b"off"[..]));
+    assert_eq!((refused.row, refused.to_string()), (Some(27), "refused 12 0 0 27".to_string()));
 }
 
 #[test]
@@ -214,7 +219,7 @@ fn names_are_equal_when_their_bytes_are() {
 }
 
 /// The slot check of a delayed jump, and of a `CJump`, with these items after it.
-fn slot_checks(after: &[&str]) -> [Result<(), Refusal>; 2] {
+fn slot_checks(after: &[&str]) -> [Result<(), Refused>; 2] {
     use VisaInstruction as V;
     let delayed = V::JumpRelative { condition: Condition::Always, offset: 0, delayed: true };
     [delayed, V::CJump { target: 7 }].map(|jump| {
@@ -250,11 +255,11 @@ fn labels_stand_around_slots() {
 fn other_items_than_labels_break_slots() {
     for other in ["start", "end", "jump", "return"] {
         for after in [["here", other, "nop", "nop"], ["nop", "here", other, "nop"]] {
-            assert_eq!(slot_checks(&after), [Err(Refusal::Slot(0)); 2], "{after:?}");
+            assert_eq!(slot_checks(&after), [refused(Refusal::Slot(0), 0); 2], "{after:?}");
         }
     }
     for after in [&["here"][..], &["nop", "here"], &["here", "nop", "here"]] {
-        assert_eq!(slot_checks(after), [Err(Refusal::Slot(0)); 2], "{after:?}");
+        assert_eq!(slot_checks(after), [refused(Refusal::Slot(0), 0); 2], "{after:?}");
     }
 }
 
@@ -262,8 +267,73 @@ fn other_items_than_labels_break_slots() {
 fn rows_that_say_no_item_are_refused() {
     let mut row = VisaInstruction::Nop.row();
     row[16] = 1;
-    assert_eq!(plain::parcel_count(&row, &[]), Err(Refusal::Row));
+    let nop = VisaInstruction::Nop.row();
+    assert_eq!(plain::parcel_count([nop, row].as_flattened(), &[]), refused(Refusal::Row, 1));
     let row = [16, 0x100, 0x60, 0, 0, 0, 0, 0, 0, 0, 0, 0, 0, 0, 0, 0, 0];
-    assert_eq!(plain::instruction_count(&row, &[]), Err(Refusal::InvalidUniversalRegister(0x100)));
-    assert_eq!(plain::slot_check(&row[1..], &[]), Err(Refusal::Rows));
+    let code = refused(Refusal::InvalidUniversalRegister(0x100), 2);
+    assert_eq!(plain::instruction_count([nop, nop, row].as_flattened(), &[]), code);
+    assert_eq!(plain::slot_check(&row[1..], &[]), Err(Refusal::Rows.into()));
+}
+
+/// A kernel of these items.
+fn kernel(items: &[&str]) -> VisaProgram {
+    let mut program = VisaProgram::new();
+    for item in items {
+        match *item {
+            "nop" => program.push(VisaInstruction::Nop),
+            "wide" => program.push(VisaInstruction::WideNop),
+            "call" => program.push(VisaInstruction::CJump { target: u32::MAX }),
+            "none" => program.loop_begin(LoopCount::Immediate(0), LoopMode::E2Active),
+            "start" => program.loop_begin(LoopCount::Immediate(1), LoopMode::E2Active),
+            "end" => program.loop_end(),
+            name => match name.strip_prefix("to ") {
+                Some(target) => program.jump(Condition::Ne, target),
+                None => program.label(name),
+            },
+        }
+    }
+    program
+}
+
+/// The items that a build, by the types and by rows, and a count are refused for.
+fn items(kernel: &VisaProgram) -> [Option<usize>; 3] {
+    let built = kernel.parcels_or_item();
+    assert_eq!(kernel.parcels(), built.clone().map_err(VisaError::from));
+    let counted = kernel.parcel_count_or_item();
+    assert_eq!(kernel.parcel_count(), counted.clone().map_err(VisaError::from));
+    [
+        built.err().and_then(|refused| refused.item),
+        by_the_plain_engine(kernel).err().and_then(|refused| refused.row),
+        counted.err().and_then(|refused| refused.item),
+    ]
+}
+
+#[test]
+fn errors_name_their_items() {
+    for (kernel_items, built, counted) in [
+        (&["a", "nop", "to a"][..], None, None),
+        (&["a", "nop", "call", "nop"], Some(2), Some(2)),
+        (&["a", "nop", "b", "nop", "a", "call"], Some(4), Some(5)),
+        (&["nop", "none", "wide", "end", "nop"], Some(3), None),
+        (&["nop", "start", "nop", "wide", "end"], Some(4), None),
+        (&["nop", "start", "end"], Some(2), None),
+        (&["start", "start", "wide", "end", "end"], Some(4), None),
+        (&["wide", "end"], Some(1), None),
+        (&["start", "wide", "to a", "end"], Some(2), None),
+        (&["start", "wide", "a", "end"], Some(2), None),
+        (&["start", "wide", "start", "start", "wide", "end", "wide"], Some(2), None),
+        (&["start", "start", "wide", "end", "wide"], Some(0), None),
+        (&["to a", "a", "to b", "nop", "to c"], Some(2), None),
+    ] {
+        let found = items(&kernel(kernel_items));
+        assert_eq!(found, [built, built, counted], "{kernel_items:?}");
+    }
+}
+
+#[test]
+fn an_error_says_its_item_and_stays_qc_asm_s() {
+    let refused = kernel(&["nop", "start", "wide"]).parcels_or_item().unwrap_err();
+    assert_eq!(refused, ItemError { error: VisaError::UnclosedLoop, item: Some(1) });
+    assert_eq!(refused.to_string(), "item 1: loop_begin without a matching loop_end");
+    assert_eq!(refused.error.to_string(), "loop_begin without a matching loop_end");
 }

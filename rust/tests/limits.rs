@@ -1,6 +1,6 @@
 //! The limits, and what a build leaves in the lent buffers.
 
-use lhodrupesh::plain::{self, Lent, LoopRecord, Name, Refusal};
+use lhodrupesh::plain::{self, Lent, LoopRecord, Name, Refusal, Refused};
 use lhodrupesh::{Condition, LoopCount, LoopMode, VisaError, VisaInstruction, VisaProgram};
 
 fn does_not_fit<T>(what: &'static str, most: usize) -> Result<T, VisaError> {
@@ -19,6 +19,7 @@ fn labels_and_jumps_fit_up_to_the_limit() {
     let mut one_label_more = program.clone();
     one_label_more.label("4096");
     assert_eq!(one_label_more.parcels(), does_not_fit("labels", 4096));
+    assert_eq!(one_label_more.parcels_or_item().unwrap_err().item, Some(8192));
     let mut one_jump_more = program;
     one_jump_more.jump(Condition::Always, "0");
     let refused = one_jump_more.parcels();
@@ -42,6 +43,7 @@ fn loops_nest_up_to_the_limit() {
     };
     assert_eq!(nested(64).parcels().map(|parcels| parcels.len()), Ok(64 * 6));
     assert_eq!(nested(65).parcels(), does_not_fit("loops open at once", 64));
+    assert_eq!(nested(65).parcels_or_item().unwrap_err().item, Some(64));
     assert_eq!(nested(65).instruction_count(), 130);
 }
 
@@ -60,7 +62,14 @@ fn rows_and_parcels_fit_up_to_the_limit() {
         program.push(VisaInstruction::Nop);
     }
     assert_eq!(program.parcels(), does_not_fit("rows", 4_194_304));
+    assert_eq!(program.parcels_or_item().unwrap_err().item, None);
     assert_eq!(program.instruction_count(), 4_194_305 + 3 * (16_777_216 / 6));
+    // The items past the most rows of a list are counted apart, and numbered with the others.
+    program.push(VisaInstruction::CJump { target: 0x100_0000 });
+    program.push(VisaInstruction::Nop);
+    let counted = program.parcel_count_or_item().unwrap_err();
+    assert_eq!(counted.error, VisaError::CallTargetOutOfRange(0x100_0000));
+    assert_eq!(counted.item, Some(4_194_305));
 }
 
 /// A label, a jump to it, a loop over a `WideNop`, and then what `last` adds.
@@ -80,14 +89,18 @@ const OLD: LoopRecord = LoopRecord { place: 7, first: 7, count: 7, mode: 7 };
 /// What a build answers, and what it leaves.
 #[derive(Debug, PartialEq)]
 struct Left {
-    answer: Result<usize, Refusal>,
+    answer: Result<usize, Refused>,
     parcels: [u16; 11],
     labels: [u32; 5],
     jumps: [u32; 3],
     loops: [LoopRecord; 2],
 }
 
-type Engine = fn(&[u32], &[u8], &mut Lent<'_>) -> Result<usize, Refusal>;
+type Engine = fn(&[u32], &[u8], &mut Lent<'_>) -> Result<usize, Refused>;
+
+fn refused(refusal: Refusal, row: usize) -> Result<usize, Refused> {
+    Err(Refused { refusal, row: Some(row) })
+}
 
 fn left_by(engine: Engine, program: &VisaProgram) -> Left {
     let mut left =
@@ -122,7 +135,7 @@ fn accepted_leaves_entries_in_item_order_and_the_rest_alone() {
 #[test]
 fn refused_leaves_zeros_where_the_rows_before_stood() {
     let left = build(&rows(|program| program.label("a")));
-    assert_eq!(left.answer, Err(Refusal::DuplicateLabel(Name { start: 2, length: 1 })));
+    assert_eq!(left.answer, refused(Refusal::DuplicateLabel(Name { start: 2, length: 1 }), 5));
     assert_eq!(left.parcels, [0, 0, 0, 0, 0, 0, 0, 0, 0, 7, 7]);
     assert_eq!((left.labels, left.jumps), ([0, 0, 0, 7, 7], [0, 0, 7]));
     assert_eq!(left.loops, [LoopRecord::default(), OLD]);
@@ -131,13 +144,13 @@ fn refused_leaves_zeros_where_the_rows_before_stood() {
 #[test]
 fn rooms_are_lent_ones() {
     let left = build(&rows(|program| program.label("b")));
-    assert_eq!(left.answer, Err(Refusal::NoRoomForLabels(1)));
+    assert_eq!(left.answer, refused(Refusal::NoRoomForLabels(1), 5));
     let left = build(&rows(|program| program.jump(Condition::Eq, "a")));
-    assert_eq!(left.answer, Err(Refusal::NoRoomForJumps(1)));
+    assert_eq!(left.answer, refused(Refusal::NoRoomForJumps(1), 5));
     let left = build(&rows(|program| program.push(VisaInstruction::WideNop)));
-    assert_eq!(left.answer, Err(Refusal::NoRoomForParcels(11)));
+    assert_eq!(left.answer, refused(Refusal::NoRoomForParcels(11), 5));
     let left = build(&rows(|program| {
         (0..3).for_each(|_| program.loop_begin(LoopCount::Immediate(1), LoopMode::E2Active))
     }));
-    assert_eq!(left.answer, Err(Refusal::NoRoomForParcels(11)));
+    assert_eq!(left.answer, refused(Refusal::NoRoomForParcels(11), 5));
 }

@@ -32,7 +32,7 @@ use Rattle.tables.proofs.Lookups.{placed}
 use Rattle.agrees.proofs.Parcels.{words, words-length, parts, parcels-are}
 use Rattle.agrees.proofs.Aims.{endOf, jumpsAt, settle-is}
 
-pick-same : (t : Bool) (x y : List ℕ) → x ≡ y → cond t x y ≡ y
+pub pick-same : {A : Type 0} (t : Bool) (x y : A) → x ≡ y → cond t x y ≡ y
 pick-same true x y e = e
 pick-same false x y e = refl
 

@@ -1,29 +1,29 @@
 -- The waiting jumps' checks, one by one in the table, are what the items say, in item order.
 use mathlib.Core.Path.{_≡_, refl, sym, ap, ap₂, _∙_, subst}
 use mathlib.Core.Logic.{⊎-elim}
-use mathlib.Core.List.{List}
-use Prim.Native.Nat.{ℕ, suc, _<_}
+use mathlib.Core.List.{List, []}
+use Prim.Native.Nat.{ℕ, suc, _+_, _*_, _<_}
 use native.Mathlib.Omega.{arith}
+use lib.ListN.{getD}
 use Rattle.refusals.specs.declared.Verdict.{Verdict}
 use Rattle.refusals.specs.declared.Verdict.the-variants.{Good, Refused}
 use Rattle.items.specs.declared.Condition.{Condition}
 use Rattle.coded.specs.declared.Coded.the-variants.{Instruction, Label, Jump, LoopBegin, LoopEnd}
 use Rattle.coded.specs.declared.Coded.{Coded}
 use Rattle.coded.specs.declared.Coded.the-variants as coded
-use Rattle.places.specs.Items.{Kernel, isJump, total, place}
-use Rattle.refusals.specs.Order.{firstOf}
+use Rattle.places.specs.Items.{Kernel, isJump, total, place, jumpWidth}
 use Rattle.places.specs.Left.{Lent}
 use Rattle.places.specs.Looking.{Found, at, nothing, labelled}
 use Rattle.places.specs.Verdict.{reach, reaches}
 use Rattle.prefixes.proofs.Tests.{order}
-use Rattle.refusals.proofs.Order.{refused-good, StopsAt, AllPass, either, all-first, stop-first}
+use Rattle.refusals.proofs.Order.{refused-good, StopsAt, AllPass}
 use Rattle.prefixes.proofs.Totals.{total-up}
 use Rattle.machine.specs.declared.State.{State}
 use Rattle.tables.specs.declared.Sought.{Sought}
 use Rattle.machine.specs.Machine.{Mem}
 use Rattle.tables.specs.Tables.{lookup}
 use Rattle.refusals.specs.Scan.{scanAt, all-scan}
-use Rattle.machine.specs.Finish.{waits, settles, aimsOf}
+use Rattle.machine.specs.Finish.{waits, settles, aimsOf, aimsRow}
 use Rattle.settling.specs.Settling.{aimForm, aimChk, aimed, aimRowChk, rowAimed}
 use Rattle.tables.proofs.Which.{IsJump, jump-or-not, RowOf, jump-row}
 use Rattle.tables.proofs.Held.{JumpEntry}
@@ -53,6 +53,10 @@ endOf k lent = mem (k .it) lent (k .n)
 
 abbrev pub jumpsAt : Kernel → Lent → ℕ → List ℕ
 jumpsAt k lent q = let m = endOf k lent in scanAt (waits k m) (settles k m) (m .lent .parcels) q
+
+-- what is said of row i, if it is a jump
+abbrev pub reached : Kernel → ℕ → Verdict
+reached k i = reaches k i (k .it i)
 
 module _ (k : Kernel) (lent : Lent) (f : Fits (k .it) lent (k .n)) where
   abbrev it : ℕ → Coded
@@ -90,33 +94,29 @@ module _ (k : Kernel) (lent : Lent) (f : Fits (k .it) lent (k .n)) where
         ∙ ap (λ (z : Sought). aimed (y .condition) (place it i) z ps) (found-is (y .start) (y .len))
 
   -- ---- all of them
-  abbrev reached : ℕ → Verdict
-  reached i = reaches k i (it i)
-
-  by-number : (q : ℕ) (c : RowOf isJump IsJump it n q) → reached (c .row) ≡ Good → waits k end q (jumpsAt k lent q) ≡ Good
+  by-number : (q : ℕ) (c : RowOf isJump IsJump it n q) → reached k (c .row) ≡ Good → waits k end q (jumpsAt k lent q) ≡ Good
   by-number q c e = subst (λ (y : ℕ). waits k end y (jumpsAt k lent y) ≡ Good) (c .number) (wait-is (c .row) (c .before) (c .is) (jumpsAt k lent (total isJump it (c .row))) ∙ e)
 
-  good : AllPass reached n → aimsOf k end ≡ firstOf reached n
-  good all =
+  pub aims-good : AllPass (reached k) (k .n) → aimsOf k (endOf k lent) ≡ Good
+  aims-good all =
       let e = jumps-is in
-      all-scan (waits k end) (settles k end) (end .lent .parcels) (end .s .jumps) 0 (λ q u w. let c = jump-row it n q (omega arith) in by-number q c (all (c .row) (c .before))) ∙ sym (all-first reached n all)
+      all-scan (waits k end) (settles k end) (end .lent .parcels) (end .s .jumps) 0 (λ q u w. let c = jump-row it n q (omega arith) in by-number q c (all (c .row) (c .before)))
 
-  stop : StopsAt reached n → aimsOf k end ≡ firstOf reached n
-  stop s = ⊎-elim (λ z. absurd (refused-good (s .why) (sym (s .fails) ∙ no-reach k (s .row) (it (s .row)) z))) jump (jump-or-not (it (s .row)))
+  -- the first jump that is refused: why, and its row as the table has it
+  pub aims-stop : (s : StopsAt (reached k) (k .n)) → (aimsOf k (endOf k lent) ≡ Refused (s .why)) × (aimsRow k (endOf k lent) ≡ s .row)
+  aims-stop s = ⊎-elim (λ z. absurd (refused-good (s .why) (sym (s .fails) ∙ no-reach k (s .row) (it (s .row)) z))) jump (jump-or-not (it (s .row)))
     where
-      jump : IsJump (it (s .row)) → aimsOf k end ≡ firstOf reached n
+      jump : IsJump (it (s .row)) → (aimsOf k end ≡ Refused (s .why)) × (aimsRow k end ≡ s .row)
       jump y =
           let e = jumps-is in
           let one : isJump (it (s .row)) ≡ 1 = ap isJump (y .jump) in
           let up = total-up isJump it (suc (s .row)) n (s .before) in
+          let t =
           scan-stop (waits k end) (settles k end) (end .lent .parcels) (end .s .jumps) 0 (total isJump it (s .row)) (omega arith) (omega arith)
           (λ q u w.
           let c = jump-row it n q (omega arith) in
           let nm = c .number in
           let lt : c .row < s .row = ⊎-elim (λ z. z) (λ z. let v = total-up isJump it (s .row) (c .row) z in absurd (omega arith)) (order (c .row) (s .row)) in
           by-number q c (s .earlier (c .row) lt))
-          (wait-is (s .row) (s .before) y (jumpsAt k lent (total isJump it (s .row))) ∙ s .fails) .0
-          ∙ sym (stop-first reached n s)
-
-  pub aims-are : aimsOf k (endOf k lent) ≡ firstOf (λ i. reaches k i (k .it i)) (k .n)
-  aims-are = ⊎-elim good stop (either reached n)
+          (wait-is (s .row) (s .before) y (jumpsAt k lent (total isJump it (s .row))) ∙ s .fails) in
+          (t .0, ap (λ (q : ℕ). getD (end .lent .jumps) (jumpWidth * q + 1) 0) (t .1) ∙ its (s .row) (s .before) y [] .row)

@@ -70,13 +70,16 @@ module _ (it : ℕ → Coded) where
       go h true = omega arith
       go h false = omega arith
 
+  pub opener-low : (i : ℕ) → opener it i ≤ i
+  opener-low i = latest-low (λ q. eqb (about (it q) .opens) 1 && eqb (nest it q + 1) (nest it i)) i
+
   not-its-end : (i b : ℕ) → (opener it i ≡ b → ⊥) → closer it i b ≡ closer it (suc i) b
   not-its-end i b f = rw (and-second (eqb (about (it i) .closes) 1) (eqb (opener it i) b) (ne-eqb _ _ f)) refl
 
   fresh : (b i : ℕ) → i ≤ b → closer it i b ≡ nothing
   fresh b zero h = refl
   fresh b (suc i) h =
-      let u = latest-low (λ q. eqb (about (it q) .opens) 1 && eqb (nest it q + 1) (nest it i)) i in
+      let u = opener-low i in
       sym (not-its-end i b (λ z. omega arith)) ∙ fresh b i (omega arith)
 
 module _ (k : Kernel) (lent : Lent) (fine : KernelFine k) where

@@ -2,14 +2,15 @@
 use mathlib.Core.Path.{_≡_, refl, sym, ap, ap₂, _∙_, subst}
 use mathlib.Core.Bool.{Bool, true, false, cond}
 use mathlib.Core.List.{List, []}
-use Prim.Native.Nat.{ℕ, _+_}
+use Prim.Native.Nat.{ℕ, _+_, _≤_}
 use native.Mathlib.Omega.{arith}
 use lib.ListN.{length}
+use lib.Dec.{ltb}
 use Rattle.refusals.specs.declared.Refusal.the-variants.{RowSlice}
 use Rattle.refusals.specs.declared.Verdict.{Verdict}
 use Rattle.refusals.specs.declared.Verdict.the-variants.{Good, Refused}
 use Rattle.coded.specs.declared.Coded.{Coded}
-use Rattle.rows.specs.Rows.{wellFormed}
+use Rattle.rows.specs.Rows.{wellFormed, mostRows}
 use Rattle.rows.proofs.Limit.{rows-few}
 use Rattle.refusals.specs.declared.Answer.{Answer}
 use Rattle.refusals.specs.declared.Answer.the-variants as answer
@@ -23,17 +24,21 @@ use Rattle.checks.specs.Rooming.{RoomingIn}
 use Rattle.checks.proofs.Rooming.{rooming-of}
 use Rattle.machine.specs.Machine.{Mem, memOf}
 use Rattle.refusals.specs.Scan.{scan-all, scan-end}
-use Rattle.machine.specs.Fold.{rowChk, zeroState, rowNext, rowsVerdict, rowsMem}
-use Rattle.machine.specs.Finish.{finish, closeVerdict, closed, outOf}
+use Rattle.refusals.proofs.Scans.{scan-low}
+use Rattle.machine.specs.Fold.{rowChk, zeroState, rowNext, rowsVerdict, rowsEnd, rowsMem}
+use Rattle.machine.specs.Finish.{finish, closeVerdict, closeRow, closed, outOf}
 use Rattle.settling.specs.Settling.{AimsFine}
 use Rattle.agrees.proofs.Along.{check-is}
-use Rattle.agrees.proofs.Equal.{same}
+use Rattle.agrees.proofs.Aimed.{pick-same}
+use Rattle.agrees.proofs.Equal.{same, rows-passed}
 use Rattle.prefixes.proofs.Names.{row-fine}
+use Rattle.prefixes.proofs.Passing.{fits}
 use Rattle.agrees.proofs.Prefix.{mem}
 use Rattle.agrees.proofs.Waiting.{aims-end}
 use Rattle.taking.specs.declared.Taking.{Taking}
-use Rattle.taking.specs.Taking.{formed, rowsTaken, tookVerdict, tookMem, Took}
-use Rattle.build.specs.Finish.{Ends, Finishing, Finished}
+use Rattle.taking.specs.Taking.{formed, rowsTaken, takenOf, tookVerdict, tookRow, tookMem, Took}
+use Rattle.ends.specs.Ends.{Closed}
+use Rattle.build.specs.Finish.{Ends, Passed, Finishing, Finished}
 
 -- ---- no refusal among the rows: every row was taken in
 -- what the waiting jumps of a memory lean on
@@ -73,10 +78,31 @@ module _ (rs ns : List ℕ) (r : Rooms) (lent : Lent) where
         (aims-end (kernelOf rs ns) lent r rooms (row-fine rs ns) (rows-few (length rs) w)
         (λ q h. sym (check-is (kernelOf rs ns) r m₀ q) ∙ scan-all C N m₀ (rowsTaken rs) 0 good q (omega arith) (omega (arith, all))))
 
+-- ---- the rows that are taken in, were the slice rows or not
+taken-few : (rs : List ℕ) → (rowsTaken rs ≤ rowsIn rs) × (rowsTaken rs ≤ mostRows)
+taken-few rs = go (wellFormed (length rs)) refl
+  where
+    go : (b : Bool) → wellFormed (length rs) ≡ b → (cond b (rowsIn rs) 0 ≤ rowsIn rs) × (cond b (rowsIn rs) 0 ≤ mostRows)
+    go true q = (omega arith, rows-few (length rs) q)
+    go false q = (omega arith, omega arith)
+
 module _ {rs ns : List ℕ} {r : Rooms} {lent : Lent} {t : Taking} {lent′ : Lent} (e : r ≡ roomsIn lent) (x : Took rs ns r lent t lent′) where
+  -- the rows before the one where they stopped passed
+  took-passed : Passed (kernelOf rs ns) (t .row)
+  took-passed =
+      let low = scan-low (rowChk (takenOf rs ns) r) (rowNext (takenOf rs ns) r) (memOf zeroState lent) (rowsTaken rs) 0 in
+      let few = taken-few rs in
+      let at = x .row in
+      record {
+        before = omega arith;
+        few = omega arith;
+        closed = subst (Closed (rowAt rs ns)) (sym (x .row ∙ ap (λ (y : Rooms). tookRow rs ns y lent) e)) (fits (takenOf rs ns) (roomsIn lent) (tookRow rs ns (roomsIn lent) lent) (rows-passed (takenOf rs ns) lent (row-fine rs ns)) .closed);
+      }
+
   pub took-finishing : Finishing (kernelOf rs ns) t (withLoops lent′ [])
   took-finishing =
       record {
+        passed = took-passed;
         used = let g = x .good in omega (arith, g .rooming, g .within);
         aims = λ v.
             let a = orElse-good (formed rs) _ (sym (x .verdict) ∙ v) in
@@ -87,13 +113,14 @@ module _ {rs ns : List ℕ} {r : Rooms} {lent : Lent} {t : Taking} {lent′ : Le
   -- what the rows and the end come to, were the slice rows or not
   by-form : (b : Bool)
       → let k = kernel ns (rowAt rs ns) (cond b (rowsIn rs) 0) in
-      finish (kernelOf rs ns) (orElse (cond b Good (Refused RowSlice)) (closeVerdict (rowsVerdict k r (memOf zeroState lent)) (rowsMem k r (memOf zeroState lent)))) (closed (rowsMem k r (memOf zeroState lent)))
-      ≡ cond b (built (kernelOf rs ns) lent) (outcome (answer.Refused RowSlice) lent)
+      finish (kernelOf rs ns) (closeRow (kernelOf rs ns) (rowsEnd k r (memOf zeroState lent))) (orElse (cond b Good (Refused RowSlice)) (closeVerdict (rowsVerdict k r (memOf zeroState lent)) (rowsMem k r (memOf zeroState lent)))) (closed (rowsMem k r (memOf zeroState lent)))
+      ≡ cond b (built (kernelOf rs ns) lent) (outcome (answer.Refused RowSlice 0) lent)
   by-form true = ap (λ (y : Rooms). outOf (kernelOf rs ns) y (memOf zeroState lent)) e ∙ same (kernelOf rs ns) lent (row-fine rs ns)
-  by-form false = refl
+  by-form false = ap (λ (row : ℕ). outcome (answer.Refused RowSlice row) lent) (pick-same (ltb 0 (rowsIn rs)) 0 0 refl)
 
   pub built-is : {a : Answer} {left : Lent} → Finished (kernelOf rs ns) t (withLoops lent′ []) a left → Builds rs ns lent (answered a) (withLoops left (lent′ .loops))
   built-is {a} {left} h =
+      let named = ap (λ (row : ℕ). finish (kernelOf rs ns) (closeRow (kernelOf rs ns) row) (t .verdict) (memOf (t .state) lent′)) (x .row) ∙ ap₂ (finish (kernelOf rs ns) (closeRow (kernelOf rs ns) (tookRow rs ns r lent))) (x .verdict) (x .mem) in
       let o : Ends (buildOf rs ns lent) a (withLoops left (lent′ .loops)) =
-      subst (λ (o : Outcome). Ends o a (withLoops left (lent′ .loops))) (ap₂ (finish (kernelOf rs ns)) (x .verdict) (x .mem) ∙ by-form (wellFormed (length rs))) (h .ends (lent′ .loops)) in
+      subst (λ (o : Outcome). Ends o a (withLoops left (lent′ .loops))) (named ∙ by-form (wellFormed (length rs))) (h .ends (lent′ .loops)) in
       record { answer = ap answered (o .answer); parcels = o .parcels; labels = o .labels; jumps = o .jumps; loops = o .loops }

@@ -8,7 +8,8 @@ ghost use Rattle.places.specs.Items.{kernelOf};
 ghost use Rattle.places.specs.Looking.{part};
 ghost use Rattle.places.specs.Left.{lentOf, Builds, BuildsAlone, HandsBack};
 ghost use Rattle.settling.specs.Settling.{Used};
-ghost use Rattle.build.specs.Finish.{Wiped, Finishing, Finished};
+ghost use Rattle.machine.specs.Finish.{closeRow};
+ghost use Rattle.build.specs.Finish.{Wiped, Passed, Finishing, Finished};
 use machine::State;
 use places::OpenLoop;
 use places::Rooms;
@@ -16,21 +17,34 @@ use places::ZERO_LOOP;
 use refusals::Answer;
 use refusals::Refusal;
 use refusals::Verdict;
+use rows::ROW_WIDTH;
 use taking::Taking;
 
-// The answer of a refusal, with zeros in what the rows took.
+// The row that a refusal names once this many rows have passed: the next, or past the last the innermost loop start still open.
+fn named_row(rows: &[u32], names: &[u8], row: usize) -> u32
+    requires { ⌜ Passed (kernelOf (now rows) (now names)) row ⌝ }
+    ensures { λ r. ⌜ r ≡ closeRow (kernelOf (now (rows .entry)) (now (names .entry))) row ⌝ }
+{
+    if row < rows.len() / ROW_WIDTH {
+        return row as u32;
+    }
+    ends::start_of(rows, names, row) as u32
+}
+
+// The answer of a refusal that names a row, with zeros in what the rows took.
 fn refused(
     why: Refusal,
+    row: u32,
     state: State,
     parcels: &mut [u16],
     labels: &mut [u32],
     jumps: &mut [u32],
 ) -> Answer
     requires { ⌜ Used (state .at) (state .labels) (state .jumps) (length (now parcels)) (length (now labels)) (length (now jumps)) ⌝ }
-    ensures { λ a. ⌜ Wiped why state (lentOf (now (parcels .entry)) (now (labels .entry)) (now (jumps .entry)) []) a (lentOf (now (parcels .exit)) (now (labels .exit)) (now (jumps .exit)) []) ⌝ }
+    ensures { λ a. ⌜ Wiped why row state (lentOf (now (parcels .entry)) (now (labels .entry)) (now (jumps .entry)) []) a (lentOf (now (parcels .exit)) (now (labels .exit)) (now (jumps .exit)) []) ⌝ }
 {
     settling::wipes::clear(state.at, state.labels, state.jumps, parcels, labels, jumps);
-    Answer::Refused(why)
+    Answer::Refused(why, row)
 }
 
 // Once all rows are taken in and every loop is closed: the rows' refusal, or the waiting jumps in item order; a refusal leaves zeros in
@@ -50,7 +64,8 @@ fn finish(
     let verdict = t.verdict;
     match verdict {
         Verdict::Refused(r) => {
-            return refused(r, state, parcels, labels, jumps);
+            let row = named_row(rows, names, t.row);
+            return refused(r, row, state, parcels, labels, jumps);
         }
         Verdict::Good => {}
     }
@@ -63,8 +78,9 @@ fn finish(
         jumps,
         state.jumps,
     );
-    match aims {
-        Verdict::Refused(r) => refused(r, state, parcels, labels, jumps),
+    let aimed = aims.verdict;
+    match aimed {
+        Verdict::Refused(r) => refused(r, aims.row, state, parcels, labels, jumps),
         Verdict::Good => Answer::Accepted(state.at as u32),
     }
 }

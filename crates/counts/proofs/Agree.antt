@@ -17,7 +17,7 @@ use Rattle.coded.specs.declared.Coded.{Coded}
 use Rattle.coded.specs.declared.Coded.the-variants as coded
 use Rattle.places.specs.declared.Rooms.{Rooms}
 use Rattle.places.specs.Items.{Kernel, kernelOf, rowAt, rowsIn, place}
-use Rattle.places.specs.Verdict.{faults, verdictAt, verdict}
+use Rattle.places.specs.Verdict.{faults, verdictAt, judgement, verdict}
 use Rattle.places.specs.Left.{Lent, roomsIn, buildOf, Builds}
 use Rattle.refusals.proofs.Order.{orElse-good, first-good, first-all, all-first}
 use Rattle.counts.specs.declared.Counting.the-variants.{Parcels}
@@ -45,12 +45,12 @@ module _ (rows names : List ℕ) (lent : Lent) where
 
   by-test : (w : Bool) → wellFormed (length rows) ≡ w → {n : ℕ} → buildOf rows names lent .answer ≡ answer.Accepted n → countOf Parcels rows names ≡ answer.Accepted n
   by-test true w {n} e =
-      let v = verdict (kernelOf rows names) (roomsIn lent) in
+      let j = judgement (kernelOf rows names) (roomsIn lent) in
       let m = place (rowAt rows names) (rowsIn rows) in
-      let q : answerOf v m ≡ answer.Accepted n = rw w at e in
-      let g = answer-good v m (sym q) in
+      let q : answerOf j m ≡ answer.Accepted n = rw w at e in
+      let g = answer-good (j .row) (j .verdict) m (sym q) in
       verdict-agrees w (g .0) ∙ ap answer.Accepted (sym (g .1))
-  by-test false w {n} e = let q : answer.Refused RowSlice ≡ answer.Accepted n = rw w at e in let z : _≡_ {A = ℕ} 0 1 = cc in absurd (omega arith)
+  by-test false w {n} e = let q : answer.Refused RowSlice 0 ≡ answer.Accepted n = rw w at e in let z : _≡_ {A = ℕ} 0 1 = cc in absurd (omega arith)
 
   -- the count of an accepted build is the parcel count
   pub count-agrees : {n : ℕ} → buildOf rows names lent .answer ≡ answer.Accepted n → countOf Parcels rows names ≡ answer.Accepted n

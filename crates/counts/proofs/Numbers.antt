@@ -1,27 +1,28 @@
 -- What a count tells: 0 exactly where the list is well formed and every row passes; else 1, or what a row is refused for.
-use mathlib.Core.Path.{_≡_, refl, sym, ap, _∙_}
+use mathlib.Core.Path.{_≡_, refl, sym, ap, _∙_, subst}
 use mathlib.Core.Bool.{Bool, true, false, true≢false, not}
-use mathlib.Core.List.{List, [], _∷_}
+use mathlib.Core.List.{List, [], _∷_, _++_}
 use mathlib.Core.Logic.{_↔_}
-use Prim.Native.Nat.{ℕ, _*_, _<_}
+use Prim.Native.Nat.{ℕ, _*_}
 use lib.ListN.{length, take, drop}
 use Rattle.refusals.specs.declared.Refusal.the-variants.{RowSlice}
 use Rattle.refusals.specs.declared.Verdict.{Verdict}
 use Rattle.refusals.specs.declared.Verdict.the-variants.{Good}
+use Rattle.refusals.specs.declared.Judged.{Judged}
 use Rattle.refusals.specs.declared.Told.{Told}
 use Rattle.refusals.specs.Numbers.{among, reading, encoding}
 use Rattle.refusals.specs.Order.{when, orElse, firstOf}
-use Rattle.refusals.proofs.Numbered.{answers-zero}
+use Rattle.refusals.proofs.Numbered.{checked, answers-zero}
 use Rattle.refusals.proofs.Within.{Tells, tells-when, tells-orElse, tells-firstOf, tells-answer, part, tells-wider, none, other}
 use Rattle.rows.specs.Rows.{rowWidth, wellFormed}
 use Rattle.coded.specs.declared.Coded.{Coded}
 use Rattle.coded.specs.Coded.{readVerdict, encodes}
 use Rattle.coded.proofs.Numbers.{row-tells, encodes-tells}
 use Rattle.places.specs.Items.{rowAt, rowsIn, total}
-use Rattle.refusals.proofs.Order.{orElse-good, when-good, first-all, all-first}
+use Rattle.refusals.proofs.Order.{orElse-good, when-good, last-one, first-all, all-first}
 use Rattle.counts.specs.declared.Counting.{Counting}
 use Rattle.counts.specs.declared.Counting.the-variants.{Parcels, Instructions}
-use Rattle.counts.specs.Counts.{rowVerdict, amount, listVerdict, Passes, Counts, numbersFor}
+use Rattle.counts.specs.Counts.{rowVerdict, amount, listJudged, Passes, Counts, numbersFor}
 
 -- ---- the list's verdict is good exactly where the list is well formed and every row passes
 not-true : (b : Bool) → not b ≡ false → b ≡ true
@@ -29,47 +30,71 @@ not-true true e = refl
 not-true false e = absurd (true≢false e)
 
 module _ (f : Coded → Verdict) (rows names : List ℕ) where
-  pub passes-good : (listVerdict f rows names ≡ Good) ↔ Passes f rows names
+  abbrev pub row : ℕ → Verdict
+  row i = f (rowAt rows names i)
+
+  -- without its row it is "1; then rows in turn"
+  pub listed-verdict : listJudged f rows names .verdict ≡ orElse (when (not (wellFormed (length rows))) RowSlice) (firstOf row (rowsIn rows))
+  listed-verdict = ap (λ (v : Verdict). orElse (when (not (wellFormed (length rows))) RowSlice) v) (last-one (firstOf row (rowsIn rows)))
+
+  pub passes-good : (listJudged f rows names .verdict ≡ Good) ↔ Passes f rows names
   passes-good = (
     (λ e.
-        let g = orElse-good (when (not (wellFormed (length rows))) RowSlice) (firstOf (λ i. f (rowAt rows names i)) (rowsIn rows)) e in
-        record { formed = not-true _ (when-good (not (wellFormed (length rows))) RowSlice (g .0)); each = first-all (λ i. f (rowAt rows names i)) (rowsIn rows) (g .1) }),
-    (λ p. rw (p .formed) (all-first (λ i. f (rowAt rows names i)) (rowsIn rows) (p .each))),
+        let g = orElse-good (when (not (wellFormed (length rows))) RowSlice) (firstOf row (rowsIn rows)) (sym listed-verdict ∙ e) in
+        record { formed = not-true _ (when-good (not (wellFormed (length rows))) RowSlice (g .0)); each = first-all row (rowsIn rows) (g .1) }),
+    (λ p. listed-verdict ∙ rw (p .formed) (all-first row (rowsIn rows) (p .each))),
   )
 
-  pub list-tells : (ns : List ℕ) → Tells ns (when true RowSlice) → ((i : ℕ) → Tells ns (f (rowAt rows names i))) → Tells ns (listVerdict f rows names)
+  pub list-tells : (ns : List ℕ) → Tells ns (when true RowSlice) → ((i : ℕ) → Tells ns (row i)) → Tells ns (listJudged f rows names .verdict)
   list-tells ns one h =
-      tells-orElse ns (when (not (wellFormed (length rows))) RowSlice) _ (tells-when ns (not (wellFormed (length rows))) RowSlice one)
-      (tells-firstOf ns (λ i. f (rowAt rows names i)) (rowsIn rows) h)
+      subst (Tells ns) (sym listed-verdict)
+      (tells-orElse ns (when (not (wellFormed (length rows))) RowSlice) _ (tells-when ns (not (wellFormed (length rows))) RowSlice one) (tells-firstOf ns row (rowsIn rows) h))
 
 -- ---- row i
+-- what a row is refused for
+abbrev rowNumbers : Counting → List ℕ
+rowNumbers Parcels = reading ++ encoding
+rowNumbers Instructions = reading
+
 module _ (rows names : List ℕ) (i : ℕ) where
-  abbrev row : List ℕ
-  row = take rowWidth (drop (i * rowWidth) rows)
+  abbrev cells : List ℕ
+  cells = take rowWidth (drop (i * rowWidth) rows)
 
   pub read-tells : (ns : List ℕ) → part (0 ∷ reading) (0 ∷ ns) ≡ true → Tells ns (readVerdict (rowAt rows names i))
-  read-tells ns p = tells-wider reading ns (readVerdict (rowAt rows names i)) p (row-tells row (length names))
+  read-tells ns p = tells-wider reading ns (readVerdict (rowAt rows names i)) p (row-tells cells (length names))
 
-  row-verdict-tells : (what : Counting) → Tells (numbersFor what) (rowVerdict what (rowAt rows names i))
+  row-verdict-tells : (what : Counting) → Tells (rowNumbers what) (rowVerdict what (rowAt rows names i))
   row-verdict-tells Parcels =
-      tells-orElse (numbersFor Parcels) (readVerdict (rowAt rows names i)) (encodes (rowAt rows names i)) (read-tells (numbersFor Parcels) refl)
-      (tells-wider encoding (numbersFor Parcels) (encodes (rowAt rows names i)) refl (encodes-tells row (length names)))
-  row-verdict-tells Instructions = read-tells (numbersFor Instructions) refl
+      tells-orElse (rowNumbers Parcels) (readVerdict (rowAt rows names i)) (encodes (rowAt rows names i)) (read-tells (rowNumbers Parcels) refl)
+      (tells-wider encoding (rowNumbers Parcels) (encodes (rowAt rows names i)) refl (encodes-tells cells (length names)))
+  row-verdict-tells Instructions = read-tells (rowNumbers Instructions) refl
 
-one-tells : (what : Counting) → Tells (numbersFor what) (when true RowSlice)
-one-tells Parcels = refl
-one-tells Instructions = refl
+-- what a list is refused for
+record Numbered (what : Counting) : Type 0 where
+  one : Tells (numbersFor what) (when true RowSlice)
+  rows : part (0 ∷ rowNumbers what) (0 ∷ numbersFor what) ≡ true
+  not-one : none (0 ∷ rowNumbers what) (1 ∷ []) ≡ true
+  not-three : none (0 ∷ numbersFor what) (3 ∷ []) ≡ true
 
-no-three : (what : Counting) → none (0 ∷ numbersFor what) (3 ∷ []) ≡ true
-no-three Parcels = refl
-no-three Instructions = refl
+numbered : (what : Counting) → Numbered what
+numbered Parcels = record { one = refl; rows = refl; not-one = refl; not-three = refl }
+numbered Instructions = record { one = refl; rows = refl; not-one = refl; not-three = refl }
+
+-- no row is refused for 1
+pub row-not-one : (what : Counting) (rows names : List ℕ) (i : ℕ) → among (1 ∷ []) (checked (rowVerdict what (rowAt rows names i))) ≡ false
+row-not-one what rows names i = other (0 ∷ rowNumbers what) (1 ∷ []) (checked (rowVerdict what (rowAt rows names i))) (numbered what .not-one) (row-verdict-tells rows names i what)
 
 -- ---- THE THEOREMS
 module _ (what : Counting) (rows names : List ℕ) {told : Told} (c : Counts what rows names told) where
+  abbrev judged : Judged
+  judged = listJudged (rowVerdict what) rows names
+
+  abbrev sum : ℕ
+  sum = total (amount what) (rowAt rows names) (rowsIn rows)
+
   pub count-zero : (told .number ≡ 0) ↔ Passes (rowVerdict what) rows names
   count-zero =
-      let v = listVerdict (rowVerdict what) rows names in
-      let z = answers-zero v (total (amount what) (rowAt rows names) (rowsIn rows)) in
+      let z = answers-zero (judged .row) (judged .verdict) sum in
       let p = passes-good (rowVerdict what) rows names in
       let e = ap (λ (t : Told). t .number) c in
       ((λ h. p .0 (z .0 (sym e ∙ h))), (λ h. e ∙ z .1 (p .1 h)))
@@ -77,9 +102,10 @@ module _ (what : Counting) (rows names : List ℕ) {told : Told} (c : Counts wha
   pub count-numbers : among (0 ∷ numbersFor what) told ≡ true
   count-numbers =
       ap (λ (t : Told). among (0 ∷ numbersFor what) t) c
-      ∙ tells-answer (numbersFor what) (listVerdict (rowVerdict what) rows names) (total (amount what) (rowAt rows names) (rowsIn rows))
-      (list-tells (rowVerdict what) rows names (numbersFor what) (one-tells what) (λ i. row-verdict-tells rows names i what))
+      ∙ tells-answer (numbersFor what) (judged .row) (judged .verdict) sum
+      (list-tells (rowVerdict what) rows names (numbersFor what) (numbered what .one)
+      (λ i. tells-wider (rowNumbers what) (numbersFor what) (rowVerdict what (rowAt rows names i)) (numbered what .rows) (row-verdict-tells rows names i what)))
 
   -- 3 is none of them
   pub count-never : among (3 ∷ []) told ≡ false
-  count-never = other (0 ∷ numbersFor what) (3 ∷ []) told (no-three what) count-numbers
+  count-never = other (0 ∷ numbersFor what) (3 ∷ []) told (numbered what .not-three) count-numbers

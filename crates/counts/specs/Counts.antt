@@ -1,7 +1,7 @@
 -- Document 01, "Also public": "the parcel count and the instruction count of a list".
 use mathlib.Core.Path.{_≡_}
 use mathlib.Core.Bool.{true, not}
-use mathlib.Core.List.{List, _∷_, _++_}
+use mathlib.Core.List.{List, [], _∷_, _++_}
 use Prim.Native.Nat.{ℕ, _<_}
 use lib.ListN.{length}
 use Rattle.refusals.specs.declared.Refusal.the-variants.{RowSlice}
@@ -10,7 +10,8 @@ use Rattle.refusals.specs.declared.Verdict.the-variants.{Good}
 use Rattle.refusals.specs.declared.Answer.{Answer}
 use Rattle.refusals.specs.declared.Told.{Told}
 use Rattle.refusals.specs.Numbers.{answerOf, answered, reading, encoding}
-use Rattle.refusals.specs.Order.{when, orElse, firstOf}
+use Rattle.refusals.specs.declared.Judged.{Judged}
+use Rattle.refusals.specs.Order.{when, orElse, ofRow, firstIn, foremost}
 use Rattle.items.specs.Kinds.{issued}
 use Rattle.rows.specs.Rows.{wellFormed}
 use Rattle.coded.specs.declared.Coded.{Coded}
@@ -29,9 +30,13 @@ abbrev pub amount : Counting → Coded → ℕ
 amount Parcels x = size x
 amount Instructions x = ofInstruction (λ y. issued (y .kind)) (isEntry x) x
 
--- "1; then rows in turn"
-abbrev pub listVerdict : (Coded → Verdict) → List ℕ → List ℕ → Verdict
-listVerdict f rows names = orElse (when (not (wellFormed (length rows))) RowSlice) (firstOf (λ i. f (rowAt rows names i)) (rowsIn rows))
+-- "1; then rows in turn": 1 names no row
+abbrev pub listJudged : (Coded → Verdict) → List ℕ → List ℕ → Judged
+listJudged f rows names =
+    foremost
+    (ofRow 0 (when (not (wellFormed (length rows))) RowSlice)
+    ∷ firstIn (λ i. f (rowAt rows names i)) (rowsIn rows)
+    ∷ [])
 
 -- that it is good: the list is well formed and every row passes
 pub record Passes (f : Coded → Verdict) (rows names : List ℕ) : Type 0 where
@@ -40,7 +45,7 @@ pub record Passes (f : Coded → Verdict) (rows names : List ℕ) : Type 0 where
 
 -- the count of a list: over all its rows
 abbrev pub countOf : Counting → List ℕ → List ℕ → Answer
-countOf what rows names = answerOf (listVerdict (rowVerdict what) rows names) (total (amount what) (rowAt rows names) (rowsIn rows))
+countOf what rows names = answerOf (listJudged (rowVerdict what) rows names) (total (amount what) (rowAt rows names) (rowsIn rows))
 
 -- THE CONTRACT of a count: what is told, in document 01's numbers
 abbrev pub Counts : Counting → List ℕ → List ℕ → Told → Type 0

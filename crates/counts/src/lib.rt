@@ -1,7 +1,7 @@
 // The parcel count and the instruction count of a list.
 ghost use mathlib.Core.Path.{_≡_};
 ghost use lib.ListN.{length};
-ghost use Rattle.refusals.specs.Numbers.{answerOf, answered};
+ghost use Rattle.refusals.specs.Numbers.{answerIn, answered};
 ghost use Rattle.encode.specs.Encoding.{formParcels, formVerdict};
 ghost use Rattle.counts.specs.Counts.{rowVerdict, amount, countOf, Counts};
 use coded::Coded;
@@ -15,78 +15,78 @@ pub enum Counting {
     Instructions,
 }
 
-// The number of a form's parcels, or why it does not encode.
-fn form_count(form: Form) -> Answer
-    ensures { λ r. ⌜ r ≡ answerOf (formVerdict form) (length (formParcels form)) ⌝ }
+// The number of a form's parcels, or why it does not encode, with its row.
+fn form_count(form: Form, row: u32) -> Answer
+    ensures { λ r. ⌜ r ≡ answerIn row (formVerdict form) (length (formParcels form)) ⌝ }
 {
     match form {
         Form::Short(_) => Answer::Accepted(1),
         Form::Pair(_) => Answer::Accepted(2),
         Form::Word(_) => Answer::Accepted(3),
         Form::Leaf => Answer::Accepted(6),
-        Form::Refused(r) => Answer::Refused(r),
+        Form::Refused(why) => Answer::Refused(why, row),
     }
 }
 
-// The number of a row's parcels, or why it is refused or does not encode.
-fn parcels_of(row: Coded) -> Answer
-    ensures { λ r. ⌜ r ≡ answerOf (rowVerdict Counting.Parcels row) (amount Counting.Parcels row) ⌝ }
+// The number of an item's parcels, or why its row is refused or does not encode.
+fn parcels_of(item: Coded, row: u32) -> Answer
+    ensures { λ r. ⌜ r ≡ answerIn row (rowVerdict Counting.Parcels item) (amount Counting.Parcels item) ⌝ }
 {
-    match row {
+    match item {
         Coded::Instruction(coding) => {
             let form = coding.form;
-            form_count(form)
+            form_count(form, row)
         }
         Coded::Label { .. } => Answer::Accepted(0),
         Coded::Jump { .. } => Answer::Accepted(3),
         Coded::LoopBegin { .. } => Answer::Accepted(3),
         Coded::LoopEnd => Answer::Accepted(0),
-        Coded::Refused(r) => Answer::Refused(r),
+        Coded::Refused(why) => Answer::Refused(why, row),
     }
 }
 
-// How many instructions a row is, or why it is refused.
-fn instructions_of(row: Coded) -> Answer
-    ensures { λ r. ⌜ r ≡ answerOf (rowVerdict Counting.Instructions row) (amount Counting.Instructions row) ⌝ }
+// How many instructions an item is, or why its row is refused.
+fn instructions_of(item: Coded, row: u32) -> Answer
+    ensures { λ r. ⌜ r ≡ answerIn row (rowVerdict Counting.Instructions item) (amount Counting.Instructions item) ⌝ }
 {
-    match row {
+    match item {
         Coded::Instruction(coding) => Answer::Accepted(items::issued(coding.kind)),
         Coded::Label { .. } => Answer::Accepted(0),
         Coded::Jump { .. } => Answer::Accepted(1),
         Coded::LoopBegin { .. } => Answer::Accepted(1),
         Coded::LoopEnd => Answer::Accepted(0),
-        Coded::Refused(r) => Answer::Refused(r),
+        Coded::Refused(why) => Answer::Refused(why, row),
     }
 }
 
-// What a row counts for, or why it is refused.
-fn count_row(row: Coded, what: Counting) -> Answer
-    ensures { λ r. ⌜ r ≡ answerOf (rowVerdict what row) (amount what row) ⌝ }
+// What the item of a row counts for, or why the row is refused.
+fn count_row(item: Coded, row: u32, what: Counting) -> Answer
+    ensures { λ r. ⌜ r ≡ answerIn row (rowVerdict what item) (amount what item) ⌝ }
 {
     match what {
-        Counting::Parcels => parcels_of(row),
-        Counting::Instructions => instructions_of(row),
+        Counting::Parcels => parcels_of(item, row),
+        Counting::Instructions => instructions_of(item, row),
     }
 }
 
-// The sum over the rows, or the refusal of the first row that has one.
+// The sum over the rows, or the refusal of the first row that has one, with that row.
 fn count(rows: &[u32], names: &[u8], what: Counting) -> Answer
     ensures { λ r. ⌜ r ≡ countOf what (now (rows .entry)) (now (names .entry)) ⌝ }
 {
     if !rows::well_formed(rows) {
-        return Answer::Refused(Refusal::RowSlice);
+        return Answer::Refused(Refusal::RowSlice, 0);
     }
     let n = rows.len() / rows::ROW_WIDTH;
     let mut count = 0;
     let mut i = 0;
     while i < n {
-        let one = count_row(coded::coded_at(rows, i, names.len()), what);
+        let one = count_row(coded::coded_at(rows, i, names.len()), i as u32, what);
         match one {
             Answer::Accepted(k) => {
                 count += k;
             }
-            Answer::Refused(r) => {
-                return Answer::Refused(r);
+            Answer::Refused(why, row) => {
+                return Answer::Refused(why, row);
             }
         }
         i += 1;

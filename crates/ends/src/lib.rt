@@ -41,7 +41,7 @@ pub fn end_check(rows: &[u32], names: &[u8], i: usize, at: usize, depth: usize) 
 
 // The start of the innermost loop that is open before row `end`: going back, a loop that has ended is passed over, from its end to its
 // start.
-fn start_of(rows: &[u32], names: &[u8], end: usize) -> usize
+pub fn start_of(rows: &[u32], names: &[u8], end: usize) -> usize
     requires { ⌜ Rows (now rows) end × Closed (rowAt (now rows) (now names)) end ⌝ }
     ensures { λ r. ⌜ r ≡ opener (rowAt (now (rows .entry)) (now (names .entry))) end ⌝ }
 {

@@ -7,11 +7,13 @@ use Prim.Native.Nat.{ℕ}
 use native.Mathlib.Omega.{arith}
 use lib.Dec.{eqb}
 use lib.ListN.{length}
+use lib.IntN.{pos}
 use Rattle.refusals.specs.declared.Refusal.{Refusal}
 use Rattle.refusals.specs.declared.Refusal.the-variants.{RowSlice, Row}
+use Rattle.refusals.specs.declared.Verdict.{Verdict}
 use Rattle.refusals.specs.declared.Verdict.the-variants as verdict
 use Rattle.refusals.specs.declared.Told.{Told}
-use Rattle.refusals.specs.Numbers.{among, reading, encoding}
+use Rattle.refusals.specs.Numbers.{answerIn, answered, among, reading, encoding}
 use Rattle.refusals.proofs.Numbered.{answers-zero}
 use Rattle.refusals.proofs.Within.{Tells, tells-answer, tells-wider, other}
 use Rattle.items.specs.declared.Item.the-variants as item
@@ -50,6 +52,11 @@ form-tells row =
     let held = held-tells (codedOf (readOf row 0)) (row-tells row 0) (encodes-tells row 0) in
     either (eqb (length row) rowWidth) _ _ (either (isMark (at row 0)) _ _ refl held) refl
 
+-- ---- no row is named
+row-zero : (v : Verdict) (n : ℕ) → answered (answerIn 0 v n) .third ≡ pos 0
+row-zero verdict.Good n = refl
+row-zero (verdict.Refused r) n = refl
+
 -- ---- accepted: the row holds an instruction, and it encodes
 refused-good : {A : Type 0} (r : Refusal) → formVerdict (form.Refused r) ≡ verdict.Good → A
 refused-good r e = let z : _≡_ {A = ℕ} 0 1 = cc in absurd (omega arith)
@@ -79,15 +86,19 @@ module _ (row : List ℕ) where
   module _ {told : Told} {places : List ℕ} (c : Encodes row told places) where
     pub instruction-zero : (told .number ≡ 0) ↔ Accepted row
     instruction-zero =
-        let z = answers-zero (formVerdict (formAt row)) (length (formParcels (formAt row))) in
+        let z = answers-zero 0 (formVerdict (formAt row)) (length (formParcels (formAt row))) in
         let e = ap (λ (t : Told). t .number) (c .0) in
         ((λ h. good-accepted .0 (z .0 (sym e ∙ h))), (λ h. e ∙ z .1 (good-accepted .1 h)))
 
     pub instruction-numbers : among (0 ∷ instructionNumbers) told ≡ true
     instruction-numbers =
         ap (λ (t : Told). among (0 ∷ instructionNumbers) t) (c .0)
-        ∙ tells-answer instructionNumbers (formVerdict (formAt row)) (length (formParcels (formAt row))) (form-tells row)
+        ∙ tells-answer instructionNumbers 0 (formVerdict (formAt row)) (length (formParcels (formAt row))) (form-tells row)
 
     -- 3 is none of them
     pub instruction-never : among (3 ∷ []) told ≡ false
     instruction-never = other (0 ∷ instructionNumbers) (3 ∷ []) told refl instruction-numbers
+
+    -- "One-instruction calls give 0" for the row
+    pub instruction-no-row : told .third ≡ pos 0
+    instruction-no-row = ap (λ (t : Told). t .third) (c .0) ∙ row-zero (formVerdict (formAt row)) (length (formParcels (formAt row)))

@@ -8,7 +8,7 @@ use lib.ListN.{length}
 use Rattle.refusals.specs.declared.Refusal.the-variants.{RowSlice, Row}
 use Rattle.refusals.specs.declared.Told.{Told}
 use Rattle.refusals.specs.declared.Verdict.the-variants as verdict
-use Rattle.refusals.specs.Numbers.{answerOf, answered, reading, encoding}
+use Rattle.refusals.specs.Numbers.{answerIn, answered, reading, encoding}
 use Rattle.items.specs.declared.VisaInstruction.{VisaInstruction}
 use Rattle.items.specs.declared.Item.the-variants as item
 use Rattle.encode.specs.declared.Form.{Form}
@@ -42,9 +42,9 @@ pub record Accepted (row : List ℕ) : Type 0 where
   pub read : readOf row 0 ≡ read.Item (item.Instruction instruction)
   pub encodes : verdictOf instruction ≡ verdict.Good
 
--- "count and six places, unused ones zero; refused: all zero"
+-- "count and six places, unused ones zero; refused: all zero"; "One-instruction calls give 0" for the row
 abbrev pub formAnswer : Form → Parcels
-formAnswer f = record { told = answered (answerOf (formVerdict f) (length (formParcels f))); places = padded (formParcels f) }
+formAnswer f = record { told = answered (answerIn 0 (formVerdict f) (length (formParcels f))); places = padded (formParcels f) }
 
 -- THE CONTRACT of one instruction: what is told of a row, in document 01's numbers, and the six places
 abbrev pub Encodes : List ℕ → Told → List ℕ → Type 0

@@ -1,28 +1,16 @@
 // One instruction's parcels from its row.
 ghost use mathlib.Core.Path.{_≡_};
-ghost use Rattle.refusals.specs.Numbers.{answerOf};
 ghost use Rattle.instruction.specs.Instruction.{heldForm, isMark, formAt, formAnswer, Encodes};
 use coded::Coded;
 use encode::Form;
-use refusals::Answer;
+use refusals::Judged;
 use refusals::Refusal;
 use refusals::Told;
-use refusals::Verdict;
 
 // One instruction's answer in numbers, and the six places, of which the unused ones are zero.
 pub struct Parcels {
     pub told: Told,
     pub places: [u16; 6],
-}
-
-// A count where the verdict is good, else the refusal.
-fn answer_of(verdict: Verdict, count: u32) -> Answer
-    ensures { λ r. ⌜ r ≡ answerOf verdict count ⌝ }
-{
-    match verdict {
-        Verdict::Good => Answer::Accepted(count),
-        Verdict::Refused(refusal) => Answer::Refused(refusal),
-    }
 }
 
 // A form's parcels; a refused one has none, and all six places are zero.
@@ -31,10 +19,11 @@ fn form_answer(f: Form) -> Parcels
 {
     let cut = encode::cut_form(f);
     let verdict = cut.verdict;
+    let judged = Judged { verdict, row: 0 };
     let count = cut.count as u32;
     let places = cut.places;
     Parcels {
-        told: refusals::answered(answer_of(verdict, count)),
+        told: refusals::answered(judged.answer(count)),
         places,
     }
 }

@@ -1,32 +1,39 @@
 -- For each call that C makes: no second answer fits its promise, number 0 is acceptance, every other number is one of its table.
 use mathlib.Core.Path.{_≡_, sym, ap, ap₂, _∙_}
 use mathlib.Core.Logic.{_↔_, _⊎_}
-use mathlib.Core.Bool.{true}
+use mathlib.Core.Bool.{true, false}
 use mathlib.Core.List.{List, _∷_}
 use Prim.Native.Nat.{ℕ, _*_, _<_, _≤_}
 use lib.ListN.{length}
+use lib.IntN.{pos}
 use Rattle.refusals.specs.declared.Told.{Told}
-use Rattle.refusals.specs.Numbers.{among}
+use Rattle.refusals.specs.Numbers.{alone, inRow, among}
 use Rattle.rows.specs.Rows.{wellFormed}
 use Rattle.instruction.specs.Instruction.{instructionNumbers, Accepted, Encodes}
 use Rattle.instruction.proofs.Single.{no-second-answer}
-use Rattle.instruction.proofs.Numbers.{instruction-zero, instruction-numbers}
-use Rattle.places.specs.Items.{kernelOf, rowsIn}
-use Rattle.places.specs.Left.{Lent, Builds}
+use Rattle.instruction.proofs.Numbers.{instruction-zero, instruction-numbers, instruction-no-row}
+use Rattle.places.specs.Items.{kernelOf, rowsIn, place}
+use Rattle.places.specs.Left.{Lent, roomsIn, Builds}
 use Rattle.places.proofs.Single.{no-second-build}
 use Rattle.rules.specs.Accepted.{ValidRows}
 use Rattle.rules.proofs.Answers.{accepted-well-formed, build-accepts-exactly-when-valid, accepted-count}
 use Rattle.rules.proofs.Fits.{accepted-fits}
 use Rattle.rules.specs.Tellable.{Tellable}
 use Rattle.rules.proofs.Numbers.{build-tells}
+use Rattle.rules.specs.WhichRow.{verdictBefore, toldBefore, NamesRow}
+use Rattle.rules.proofs.WhichRow.{build-names-none, build-names-row, build-told-before}
 use Rattle.plain.specs.Once.{from, writes}
 use Rattle.plain.proofs.Once.{each-once}
 use Rattle.counts.specs.declared.Counting.{Counting}
 use Rattle.counts.specs.Counts.{rowVerdict, Passes, Counts, numbersFor}
+use Rattle.counts.specs.Named as counts
 use Rattle.counts.proofs.Single.{no-second-count}
+use Rattle.counts.proofs.Named.{count-names-row}
 use Rattle.counts.proofs.Numbers.{count-zero, count-numbers}
 use Rattle.slots.specs.Slots.{Filled, Checks, slotNumbers}
+use Rattle.slots.specs.Named as slots
 use Rattle.slots.proofs.Single.{no-second-verdict}
+use Rattle.slots.proofs.Named.{slot-check-names-row}
 use Rattle.slots.proofs.Numbers.{check-zero, check-numbers}
 use Rattle.parcel_bytes.specs.declared.ToldBytes.{ToldBytes}
 use Rattle.parcel_bytes.specs.Bytes.{Writes}
@@ -44,6 +51,10 @@ module _ (row : List ℕ) {r : One} (promise : Encodes row (toldIn r) (r .places
 
   pub one-numbers : among (0 ∷ instructionNumbers) (toldIn r) ≡ true
   one-numbers = instruction-numbers row promise
+
+  -- "One-instruction calls give 0" for the row
+  pub one-no-row : r .third ≡ pos 0
+  one-no-row = instruction-no-row row promise
 
 -- ---- lhodrupesh_build
 module _ (rows names : List ℕ) (lent : Lent) {t : Told} {left : Lent} (promise : Builds rows names lent t left) where
@@ -65,6 +76,16 @@ module _ (rows names : List ℕ) (lent : Lent) {t : Told} {left : Lent} (promise
   pub build-numbers : Tellable names t
   build-numbers = build-tells rows names lent t left promise
 
+  -- WHICH ROW: 1 names none; any other refusal names one of the list's, the first at fault; and the answer without it is the answer of before
+  pub built-no-row : wellFormed (length rows) ≡ false → t ≡ alone 1
+  built-no-row w = build-names-none rows names lent t left promise w
+
+  pub built-row : wellFormed (length rows) ≡ true → (t .number ≡ 0 → ⊥) → NamesRow rows names lent t
+  built-row w refused = build-names-row rows names lent t left promise w refused
+
+  pub built-before : wellFormed (length rows) ≡ true → inRow 0 t ≡ toldBefore (verdictBefore (kernelOf rows names) (roomsIn lent)) (place (kernelOf rows names .it) (rowsIn rows))
+  built-before w = build-told-before rows names lent t left promise w
+
 -- ---- lhodrupesh_parcel_count, lhodrupesh_instruction_count
 module _ (what : Counting) (rows names : List ℕ) {t : Told} (promise : Counts what rows names t) where
   pub no-second-counted : {s : Told} → Counts what rows names s → t ≡ s
@@ -75,6 +96,10 @@ module _ (what : Counting) (rows names : List ℕ) {t : Told} (promise : Counts 
 
   pub counted-numbers : among (0 ∷ numbersFor what) t ≡ true
   counted-numbers = count-numbers what rows names promise
+
+  -- 1 names no row; any other refusal names the first row at fault
+  pub counted-row : counts.NamesRow (λ i. rowVerdict what (kernelOf rows names .it i)) (rowsIn rows) t
+  counted-row = count-names-row what rows names promise
 
 -- ---- lhodrupesh_slot_check
 module _ (rows names : List ℕ) {t : Told} (promise : Checks rows names t) where
@@ -87,6 +112,10 @@ module _ (rows names : List ℕ) {t : Told} (promise : Checks rows names t) wher
   pub checked-numbers : among (0 ∷ slotNumbers) t ≡ true
   checked-numbers = check-numbers rows names promise
 
+  -- 1 names no row; a row refusal names the first row at fault, 33 the first jump whose slots are broken
+  pub checked-row : slots.NamesRow rows names t
+  checked-row = slot-check-names-row rows names promise
+
 -- ---- lhodrupesh_bytes
 module _ (parcels lent : List ℕ) {t : ToldBytes} {left : List ℕ} (promise : Writes parcels lent t left) where
   pub no-second-written : {s : ToldBytes} {other : List ℕ} → Writes parcels lent s other → (t ≡ s) × (left ≡ other)
@@ -94,6 +123,9 @@ module _ (parcels lent : List ℕ) {t : ToldBytes} {left : List ℕ} (promise : 
 
   pub written-zero : ((t .number ≡ 0) × (2 * length parcels ≤ length lent)) ⊎ ((t .number ≡ 34) × (length lent < 2 * length parcels))
   written-zero = bytes.written-or-34 parcels lent promise
+
+  pub written-no-row : t .third ≡ pos 0
+  written-no-row = bytes.no-row parcels lent promise
 
 -- ---- lhodrupesh_build_plain: its contract is lhodrupesh_build's, so what is said of that is said of it
 -- THE TWO ENGINES AGREE on every input: the quick one's answer and every lent place, and the plain one's

@@ -5,7 +5,7 @@ use mathlib.Core.List.{List, _∷_}
 use Prim.Native.Nat.{ℕ}
 use lib.ListN.{length}
 use Rattle.refusals.specs.declared.Told.{Told}
-use Rattle.refusals.specs.Numbers.{among, answerOf, naming}
+use Rattle.refusals.specs.Numbers.{among, answerIn, naming}
 use Rattle.refusals.proofs.Numbered.{unnamed-answer}
 use Rattle.refusals.proofs.Within.{other}
 use Rattle.encode.specs.Encoding.{formParcels, formVerdict}
@@ -20,11 +20,11 @@ Ranged t = among naming t ≡ false → (t .start ≡ 0) × (t .length ≡ 0)
 module _ (row : List ℕ) {t : Told} {places : List ℕ} (c : Encodes row t places) where
   pub nameless : (t .start ≡ 0) × (t .length ≡ 0)
   nameless =
-      subst Ranged (sym (c .0)) (unnamed-answer (answerOf (formVerdict (formAt row)) (length (formParcels (formAt row)))))
+      subst Ranged (sym (c .0)) (unnamed-answer (answerIn 0 (formVerdict (formAt row)) (length (formParcels (formAt row)))))
       (other (0 ∷ instructionNumbers) naming t refl (instruction-numbers row c))
 
   told-one : toldIn (oneOf t places) ≡ t
-  told-one = λ i. record { number = t .number; count = t .count; first = t .first; second = t .second; start = sym (nameless .0) i; length = sym (nameless .1) i }
+  told-one = λ i. record { number = t .number; count = t .count; first = t .first; second = t .second; third = t .third; start = sym (nameless .0) i; length = sym (nameless .1) i }
 
   pub encodes-one : {r : One} → r ≡ oneOf t places → Encodes row (toldIn r) (r .places)
   encodes-one e = subst (λ (o : One). Encodes row (toldIn o) (o .places)) (sym e) (told-one ∙ c .0, c .1)

@@ -5,7 +5,7 @@ use Rattle.refusals.specs.declared.Told.{Told}
 use Rattle.link.specs.declared.One.{One}
 
 abbrev pub oneOf : Told → List ℕ → One
-oneOf t places = record { number = t .number; count = t .count; first = t .first; second = t .second; places = places }
+oneOf t places = record { number = t .number; count = t .count; first = t .first; second = t .second; third = t .third; places = places }
 
 abbrev pub toldIn : One → Told
-toldIn one = record { number = one .number; count = one .count; first = one .first; second = one .second; start = 0; length = 0 }
+toldIn one = record { number = one .number; count = one .count; first = one .first; second = one .second; third = one .third; start = 0; length = 0 }

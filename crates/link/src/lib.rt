@@ -19,6 +19,7 @@ pub struct One {
     pub count: u32,
     pub first: i64,
     pub second: i64,
+    pub third: i64,
     pub places: [u16; 6],
 }
 
@@ -33,6 +34,7 @@ fn shaped(parcels: Parcels) -> One
         count: told.count,
         first: told.first,
         second: told.second,
+        third: told.third,
         places,
     }
 }
@@ -67,7 +69,7 @@ pub extern "C" fn lhodrupesh_build(
     ))
 }
 
-// The same call for the plain engine. A stand-in: the quick build does it.
+// The same by the plain engine.
 #[no_mangle]
 pub extern "C" fn lhodrupesh_build_plain(
     rows: &[u32],
@@ -110,7 +112,7 @@ pub extern "C" fn lhodrupesh_instruction_count(rows: &[u32], names: &[u8]) -> To
 pub extern "C" fn lhodrupesh_slot_check(rows: &[u32], names: &[u8]) -> Told
     ensures { λ r. ⌜ Checks (now (rows .entry)) (now (names .entry)) r ⌝ }
 {
-    refusals::checked(slots::slot_check(rows, names))
+    refusals::answered(slots::slot_check(rows, names))
 }
 
 // Parcels to bytes: its answer in numbers, and what it leaves in the lent bytes.

@@ -16,7 +16,7 @@ abbrev pub memAt : (ℕ → Coded) → Mem → ℕ → Mem
 memAt it m zero = m
 memAt it m (suc i) = next i (it i) (memAt it m i)
 
--- the rows of a kernel in turn: the first refusal, and the state and the buffers before it, or after all rows
+-- the rows of a kernel in turn: the first refusal, how many rows pass before it, and the state and the buffers then
 module _ (k : Kernel) (r : Rooms) where
   abbrev pub rowChk : ℕ → Mem → Verdict
   rowChk i m = check (k .names) r (k .it i) m
@@ -27,5 +27,8 @@ module _ (k : Kernel) (r : Rooms) where
   abbrev pub rowsVerdict : Mem → Verdict
   rowsVerdict m = scanChk rowChk rowNext m (k .n) 0
 
+  abbrev pub rowsEnd : Mem → ℕ
+  rowsEnd m = scanEnd rowChk rowNext m (k .n) 0
+
   abbrev pub rowsMem : Mem → Mem
-  rowsMem m = memAt (k .it) m (scanEnd rowChk rowNext m (k .n) 0)
+  rowsMem m = memAt (k .it) m (rowsEnd m)

@@ -5,6 +5,7 @@ use mathlib.Core.Bool.{Bool, true, false}
 use mathlib.Core.List.{List, _++_}
 use Prim.Native.Nat.{ℕ, _*_, _<_, _≤_}
 use lib.ListN.{length, drop}
+use lib.IntN.{pos}
 use lib.Dec.{ltb}
 use borrow.Author.Tests.{lt-ltb, le-ltb, ltb-true, ltb-false}
 use Rattle.parcel_bytes.specs.Bytes.{lowFirst, Writes}
@@ -34,3 +35,11 @@ module _ (parcels bytes : List ℕ) where
 
     pub written-or-34 : ((t .number ≡ 0) × (2 * length parcels ≤ length bytes)) ⊎ ((t .number ≡ 34) × (length bytes < 2 * length parcels))
     written-or-34 = by-room _ refl
+
+    -- no row is named
+    by-test : (short : Bool) → ltb (length bytes) (2 * length parcels) ≡ short → t .third ≡ pos 0
+    by-test false e = ap (λ (t : ToldBytes). t .third) (promise .told) ∙ rw e
+    by-test true e = ap (λ (t : ToldBytes). t .third) (promise .told) ∙ rw e
+
+    pub no-row : t .third ≡ pos 0
+    no-row = by-test _ refl

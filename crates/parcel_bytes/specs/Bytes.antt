@@ -14,8 +14,8 @@ use Rattle.parcel_bytes.specs.declared.ToldBytes.{ToldBytes}
 
 -- the answer in numbers: 0 and the bytes written, or a refusal's number and its detail
 abbrev pub toldBytes : Written → ToldBytes
-toldBytes (Bytes n) = record { bytes = n; first = pos 0; number = 0; spare = 0 }
-toldBytes (Refused r) = record { bytes = 0; first = toldOf r .first; number = toldOf r .number; spare = 0 }
+toldBytes (Bytes n) = record { bytes = n; first = pos 0; third = pos 0; number = 0; spare = 0 }
+toldBytes (Refused r) = record { bytes = 0; first = toldOf r .first; third = toldOf r .third; number = toldOf r .number; spare = 0 }
 
 -- "low byte first"
 abbrev pub lowFirst : List ℕ → List ℕ

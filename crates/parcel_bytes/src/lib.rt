@@ -9,11 +9,12 @@ pub enum Written {
     Refused(Refusal),
 }
 
-// The same in numbers: 0 and the bytes written; or a refusal's number with its detail and no bytes.
+// The same in numbers: 0 and the bytes written; or a refusal's number with its detail and no bytes. The third detail, a row, is always 0.
 #[repr(C)]
 pub struct ToldBytes {
     pub bytes: u64,
     pub first: i64,
+    pub third: i64,
     pub number: u32,
     pub spare: u32,
 }
@@ -27,6 +28,7 @@ impl Written {
             Written::Bytes(bytes) => ToldBytes {
                 bytes,
                 first: 0,
+                third: 0,
                 number: 0,
                 spare: 0,
             },
@@ -35,6 +37,7 @@ impl Written {
                 ToldBytes {
                     bytes: 0,
                     first: told.first,
+                    third: told.third,
                     number: told.number,
                     spare: 0,
                 }

@@ -24,10 +24,10 @@ pub starred :
     × Gives ((30 ∷ 0x1234 ∷ []) ∷ []) (0x9fc0 ∷ 0x0000 ∷ 0x1234 ∷ [])
     × Gives ((35 ∷ 7 ∷ 7 ∷ 0x1234 ∷ []) ∷ []) (0x9fc0 ∷ 0x0000 ∷ 0x1234 ∷ [])
     × Gives ((28 ∷ 5 ∷ 0xff80_0000 ∷ 0 ∷ []) ∷ []) (0x073e ∷ 0x0080 ∷ 0x0000 ∷ [])
-    × Refuses ((28 ∷ 5 ∷ 0x80_0000 ∷ 0 ∷ []) ∷ []) (one 9 (pos 0x80_0000))
+    × Refuses ((28 ∷ 5 ∷ 0x80_0000 ∷ 0 ∷ []) ∷ []) 0 (one 9 (pos 0x80_0000))
     × Gives ((32 ∷ 2 ∷ 0 ∷ 1 ∷ 5 ∷ 0 ∷ 2 ∷ 9 ∷ 13 ∷ []) ∷ []) (0x013e ∷ 0x0058 ∷ 0x0255 ∷ [])
     × Gives ((50 ∷ 0 ∷ 16 ∷ 1 ∷ []) ∷ (39 ∷ []) ∷ (51 ∷ []) ∷ []) (0x0c00 ∷ 0x1080 ∷ 0x0003 ∷ 0x0000 ∷ 0x0000 ∷ 0x0000 ∷ [])
-    × Refuses ((50 ∷ 0 ∷ 16 ∷ 1 ∷ []) ∷ (50 ∷ 0 ∷ 16 ∷ 1 ∷ []) ∷ (39 ∷ []) ∷ (51 ∷ []) ∷ (51 ∷ []) ∷ []) (alone 25)
+    × Refuses ((50 ∷ 0 ∷ 16 ∷ 1 ∷ []) ∷ (50 ∷ 0 ∷ 16 ∷ 1 ∷ []) ∷ (39 ∷ []) ∷ (51 ∷ []) ∷ (51 ∷ []) ∷ []) 4 (alone 25)
 unfolding fields compute boundsOf said placesOf checkOf madeMulti madeSingle inDag layoutOf jumpForm loopForm formOf parcelsOf verdictOf conditionOf modeOf aluOpOf countOf scalars transfers others instructionOf computeOf itemOf readOf
 starred = (
   (refl, refl),

@@ -9,6 +9,7 @@ use Rattle.refusals.specs.declared.Answer.{Answer}
 use Rattle.refusals.specs.declared.Answer.the-variants as answer
 use Rattle.refusals.specs.declared.Refusal.the-variants.{RowSlice}
 use Rattle.refusals.specs.declared.Verdict.{Verdict}
+use Rattle.refusals.specs.declared.Judged.{Judged}
 use Rattle.refusals.specs.Numbers.{answerOf, answered}
 use Rattle.refusals.specs.Order.{ifGood}
 use Rattle.items.specs.declared.Condition.{Condition}
@@ -23,7 +24,7 @@ use Rattle.places.specs.declared.OpenLoop.{OpenLoop}
 use Rattle.places.specs.declared.Rooms.{Rooms}
 use Rattle.places.specs.Items.{Kernel, kernelOf, place, address, roomsOf}
 use Rattle.places.specs.Looking.{Found, at, nothing, closer, deepest, labelled, part}
-use Rattle.places.specs.Verdict.{jumpOffset, loopOffset, verdict, taken}
+use Rattle.places.specs.Verdict.{jumpOffset, loopOffset, judgement, taken}
 
 -- what is lent: "parcels", "label entries", "waiting jumps", and "a lent table of loop records"
 pub record Lent : Type 0 where
@@ -91,8 +92,8 @@ outcome a lent = record { answer = a; lent = lent }
 module _ (k : Kernel) (lent : Lent) where
   open Kernel k using (it, n)
 
-  abbrev pub judged : Verdict
-  judged = verdict k (roomsIn lent)
+  abbrev pub judged : Judged
+  judged = judgement k (roomsIn lent)
 
   abbrev pub took : ℕ
   took = taken k (roomsIn lent)
@@ -106,15 +107,15 @@ module _ (k : Kernel) (lent : Lent) where
   built =
       outcome (answerOf judged (place it n))
       (record {
-        parcels = put judged (gather (λ i. leftBy i .parcels) took) (lent .parcels);
-        labels = put judged (gather (λ i. leftBy i .labels) took) (lent .labels);
-        jumps = put judged (gather (λ i. leftBy i .jumps) took) (lent .jumps);
+        parcels = put (judged .verdict) (gather (λ i. leftBy i .parcels) took) (lent .parcels);
+        labels = put (judged .verdict) (gather (λ i. leftBy i .labels) took) (lent .labels);
+        jumps = put (judged .verdict) (gather (λ i. leftBy i .jumps) took) (lent .jumps);
         loops = replicate (deepest it took) zeroLoop ++ drop (deepest it took) (lent .loops);
       })
 
--- 1 changes nothing; else the rows are built
+-- 1 changes nothing and names no row; else the rows are built
 abbrev pub buildOf : List ℕ → List ℕ → Lent → Outcome
-buildOf rows names lent = cond (wellFormed (length rows)) (built (kernelOf rows names) lent) (outcome (answer.Refused RowSlice) lent)
+buildOf rows names lent = cond (wellFormed (length rows)) (built (kernelOf rows names) lent) (outcome (answer.Refused RowSlice 0) lent)
 
 -- THE CONTRACT of a build: what is told, in document 01's numbers, and what is left, are what the build comes to
 pub record Builds (rows names : List ℕ) (lent : Lent) (told : Told) (left : Lent) : Type 0 where

@@ -1,4 +1,5 @@
--- What a build answers. Document 01, "Order": "1; then rows in turn; then 23; then jumps in item order, 12 before 9."
+-- What a build answers. Document 01, "Order": "1; then rows in turn; then 23; then jumps in item order, 12 before 9"; document 02, wish 3: and
+-- which row it names.
 use mathlib.Core.Bool.{false, _&&_}
 use mathlib.Core.List.{List, [], _∷_}
 use Prim.Native.Nat.{ℕ, _+_}
@@ -8,7 +9,8 @@ use Rattle.refusals.specs.declared.Refusal.{Refusal}
 use Rattle.refusals.specs.declared.Refusal.the-variants.{DuplicateLabel, UndefinedLabel, EmptyLoop, UnclosedLoop, UnmatchedLoopEnd, SharedLoopEnd, LoopTailNotFullWidth, BranchInLoop, LabelInLoop, NoRoomForParcels, NoRoomForLabels, NoRoomForJumps, NoRoomForLoops}
 use Rattle.refusals.specs.declared.Verdict.{Verdict}
 use Rattle.refusals.specs.declared.Verdict.the-variants.{Good, Refused}
-use Rattle.refusals.specs.Order.{when, first, firstOf, passing}
+use Rattle.refusals.specs.declared.Judged.{Judged}
+use Rattle.refusals.specs.Order.{when, first, passing, ofRow, firstIn, foremost}
 use Rattle.items.specs.Kinds.{isBranch}
 use Rattle.items.specs.declared.Condition.{Condition}
 use Rattle.encode.specs.declared.Form.{Form}
@@ -88,20 +90,27 @@ module _ (k : Kernel) where
   abbrev pub reaches : ℕ → Coded → Verdict
   reaches i x = ofJump (λ c a b. reach it c i a b (labelled k a b n)) Good x
 
+  abbrev pub reachAt : ℕ → Verdict
+  reachAt i = reaches i (it i)
+
 module _ (k : Kernel) (rooms : Rooms) where
   open Kernel k using (it, n)
 
   abbrev pub verdictAt : ℕ → Verdict
   verdictAt i = first (faults k rooms i (it i))
 
-  -- "rows in turn; then 23; then jumps in item order"
-  abbrev pub verdict : Verdict
-  verdict =
-      first
-      (firstOf verdictAt n
-      ∷ when (ltb 0 (nest it n)) UnclosedLoop
-      ∷ firstOf (λ i. reaches k i (it i)) n
+  -- "rows in turn; then 23; then jumps in item order"; "refusal 23 gives the innermost loop start still open, and 12 and 9 from a labelled
+  -- jump give the jump's row"
+  abbrev pub judgement : Judged
+  judgement =
+      foremost
+      (firstIn verdictAt n
+      ∷ ofRow (opener it n) (when (ltb 0 (nest it n)) UnclosedLoop)
+      ∷ firstIn (reachAt k) n
       ∷ [])
+
+  abbrev pub verdict : Verdict
+  verdict = judgement .verdict
 
   -- "the rows before the refused one", or all
   abbrev pub taken : ℕ

@@ -9,17 +9,17 @@ use lib.ListN.{length}
 use lib.Dec.{ltb}
 use lib.Seq.{sets, length-sets}
 use Rattle.refusals.specs.declared.Refusal.{Refusal}
-use Rattle.refusals.specs.declared.Refusal.the-variants.{DuplicateLabel, LabelInLoop, NoRoomForLabels, UnclosedLoop}
-use Rattle.refusals.specs.declared.Verdict.{Verdict}
+use Rattle.refusals.specs.declared.Refusal.the-variants.{DuplicateLabel, LabelInLoop, NoRoomForLabels}
+use Rattle.refusals.specs.declared.Judged.{Judged}
 use Rattle.refusals.specs.declared.Verdict.the-variants.{Good, Refused}
-use Rattle.refusals.specs.Order.{when, orElse, first, firstOf}
-use Rattle.refusals.proofs.Order.{last-one, AllPass, StopsAt, below-suc, all-first, all-passing, stop-first, stop-passing}
+use Rattle.refusals.specs.Order.{when, first, firstIn}
+use Rattle.refusals.proofs.Order.{last-one, AllPass, StopsAt, below-suc, all-first, all-passing, stop-first, stop-passing, foremost-here, foremost-on}
 use Rattle.rows.specs.Rows.{mostRows}
 use Rattle.coded.specs.declared.Coded.{Coded}
 use Rattle.coded.specs.declared.Coded.the-variants as coded
 use Rattle.coded.specs.declared.Coded.the-variants.{Instruction, Label, Jump, LoopBegin, LoopEnd}
 use Rattle.places.specs.declared.Rooms.{Rooms}
-use Rattle.places.specs.Items.{Kernel, kernelOf, rowsIn, about, isLabel, isJump, total, place, nest, labelWidth, jumpWidth}
+use Rattle.places.specs.Items.{Kernel, kernelOf, rowAt, rowsIn, about, isLabel, isJump, total, place, nest, labelWidth, jumpWidth}
 use Rattle.places.specs.Looking.{labelled}
 use Rattle.places.specs.Verdict.{faults, verdictAt, taken}
 use Rattle.places.specs.Left.{Lent, left}
@@ -30,9 +30,10 @@ use Rattle.tables.specs.Tables.{isThere, KernelFine}
 use Rattle.tables.specs.Held.{HoldsLabels}
 use Rattle.tables.proofs.Held.{labels-held}
 use Rattle.tables.proofs.Lookups.{there-is, lookup-is, entries-in}
+use Rattle.ends.specs.Ends.{Closed}
 use Rattle.plain.specs.declared.first.Before.{Before}
 use Rattle.plain.specs.declared.first.Placed.{Placed}
-use Rattle.plain.specs.Plain.{beforeRow, passed, PassFine, checkAt, CheckFine, EnterFine, Entered, labelsAt, jumpsAt, RoomingOf, Walked}
+use Rattle.plain.specs.Plain.{beforeRow, passed, PassFine, checkAt, CheckFine, EnterFine, Entered, labelsAt, jumpsAt, unclosed, lateOf, pastOf, Passed, rowsJudged, RoomingOf, Walked}
 use Rattle.plain.proofs.Entries.{label-left, jump-left}
 
 module _ (k : Kernel) where
@@ -93,13 +94,15 @@ module _ (k : Kernel) (r : Rooms) (lent : Lent) where
     more g = below-suc (λ (q : ℕ). verdictAt k r q ≡ Good) i (a .passes) g
 
     module _ (h : i < n) {x : Coded} (e : x ≡ it i) where
-      pub along-stop : {why : Refusal} → checkAt k r (now .labels) b i x ≡ Refused why → Walked k r lent (record { before = b; verdict = Refused why }) now
+      pub along-stop : {why : Refusal} → checkAt k r (now .labels) b i x ≡ Refused why → Walked k r lent (record { before = b; verdict = Refused why; row = i }) now
       along-stop {why} c =
           let s : StopsAt (verdictAt k r) n = record { row = i; why = why; before = h; fails = sym (check-is e) ∙ c; earlier = a .passes } in
           let t : taken k r ≡ i = stop-passing (verdictAt k r) n s in
+          let j : rowsJudged k r ≡ firstIn (verdictAt k r) n = foremost-here (firstIn (verdictAt k r) n) (unclosed k (nest it n) ∷ []) (stop-first (verdictAt k r) n s) in
           record {
             before = a .before ∙ ap (beforeRow it) (sym t);
-            verdict = ap (λ (v : Verdict). orElse v (when (ltb 0 (nest it n)) UnclosedLoop)) (sym (stop-first (verdictAt k r) n s));
+            verdict = sym (ap (λ (j : Judged). j .verdict) j ∙ stop-first (verdictAt k r) n s);
+            row = sym (ap (λ (j : Judged). j .row) j ∙ t);
             labels = a .labels ∙ ap (labelsAt k (lent .labels)) (sym t);
             jumps = a .jumps ∙ ap (jumpsAt k (lent .jumps)) (sym t);
           }
@@ -154,17 +157,30 @@ module _ (k : Kernel) (r : Rooms) (lent : Lent) where
               jumps = en .jumps ∙ rw (a .before, e, a .jumps) (ap (sets (jumpsAt k (lent .jumps) i) (jumpWidth * total isJump it i)) (jump-left k i (it i)));
             })
 
-    pub along-end : n ≤ i → {v : Verdict} → v ≡ when (ltb 0 (b .depth)) UnclosedLoop → Walked k r lent (record { before = b; verdict = v }) now
-    along-end h e =
+    pub along-end : n ≤ i → Walked k r lent (pastOf k b) now
+    along-end h =
         let z : i ≡ n = omega (arith, a .within) in
         let p : AllPass (verdictAt k r) n = subst (AllPass (verdictAt k r)) z (a .passes) in
         let t : taken k r ≡ i = all-passing (verdictAt k r) n p ∙ sym z in
+        let j : lateOf k (b .depth) ≡ rowsJudged k r = ap (λ (y : Before). lateOf k (y .depth)) (a .before ∙ ap (beforeRow it) z) ∙ sym (foremost-on (firstIn (verdictAt k r) n) (unclosed k (nest it n) ∷ []) (all-first (verdictAt k r) n p)) in
         record {
           before = a .before ∙ ap (beforeRow it) (sym t);
-          verdict = e ∙ ap (λ (y : Before). when (ltb 0 (y .depth)) UnclosedLoop) (a .before ∙ ap (beforeRow it) z) ∙ ap (λ (v : Verdict). orElse v (when (ltb 0 (nest it n)) UnclosedLoop)) (sym (all-first (verdictAt k r) n p));
+          verdict = ap (λ (j : Judged). j .verdict) j;
+          row = ap (λ (j : Judged). j .row) j;
           labels = a .labels ∙ ap (labelsAt k (lent .labels)) (sym t);
           jumps = a .jumps ∙ ap (jumpsAt k (lent .jumps)) (sym t);
         }
+
+-- ---- past the rows every loop end has closed a loop
+pub past-fine : (rows names : List ℕ) (r : Rooms) (lent : Lent) → rowsIn rows ≤ mostRows → {i : ℕ} {b : Before} (now : Lent) → Along (kernelOf rows names) r lent i b now
+    → rowsIn rows ≤ i → Passed rows names b
+past-fine rows names r lent few {i} now a h =
+    let z : i ≡ rowsIn rows = omega (arith, a .within) in
+    record {
+      few = few;
+      closed = subst (Closed (rowAt rows names)) z (fits (kernelOf rows names) r i (a .passes) .closed);
+      depth-is = ap (λ (y : Before). y .depth) (a .before) ∙ ap (nest (rowAt rows names)) z;
+    }
 
 -- ---- what the check leans on
 pub check-fine : (rows names : List ℕ) (r : Rooms) (lent : Lent) → RoomingOf r lent → rowsIn rows ≤ mostRows → {i : ℕ} {b : Before} (now : Lent)

@@ -1,92 +1,48 @@
 -- From the two walks to the contract of the build.
 use mathlib.Core.Path.{_≡_, refl, sym, ap, ap₂, _∙_, subst}
-use mathlib.Core.Logic.{⊎-elim}
 use mathlib.Core.Bool.{Bool, true, false, cond}
 use mathlib.Core.List.{List, [], _∷_, _++_}
-use Prim.Native.Nat.{ℕ, zero, suc, _+_, _-_, _*_, _≤_, _<_}
+use Prim.Native.Nat.{ℕ, _+_, _*_, _≤_}
 use native.Mathlib.Omega.{arith}
 use lib.ListN.{length, drop, replicate}
-use lib.Dec.{ltb}
-use lib.Seq.{drop-drop}
-use borrow.Author.Tests.{ltb-false}
 use Rattle.refusals.specs.declared.Answer.{Answer}
 use Rattle.refusals.specs.declared.Answer.the-variants as answer
 use Rattle.refusals.specs.declared.Refusal.{Refusal}
-use Rattle.refusals.specs.declared.Refusal.the-variants.{RowSlice, UnclosedLoop}
+use Rattle.refusals.specs.declared.Refusal.the-variants.{RowSlice}
 use Rattle.refusals.specs.declared.Verdict.{Verdict}
 use Rattle.refusals.specs.declared.Verdict.the-variants.{Good, Refused}
+use Rattle.refusals.specs.declared.Judged.{Judged}
 use Rattle.refusals.specs.Numbers.{answerOf, answered}
-use Rattle.refusals.specs.Order.{when, orElse, first, firstOf}
-use Rattle.refusals.specs.Scan.{Came, scanAt, scanChk, scanEnd, all-scan, scan-end}
-use Rattle.refusals.proofs.Order.{last-one, AllPass, StopsAt, either, refused-good, when-good, orElse-good, first-all, all-first, all-passing, stop-first, stop-passing}
-use Rattle.refusals.proofs.Scans.{scan-stop, scan-low}
+use Rattle.refusals.specs.Order.{orElse, firstOf, passing, ifGood, ofRow, firstIn, foremost}
+use Rattle.refusals.specs.Scan.{scanEnd, scan-end}
+use Rattle.refusals.proofs.Order.{refused-good, foremost-here, foremost-on}
+use Rattle.refusals.proofs.Scans.{scan-low, scan-first}
 use Rattle.rows.specs.Rows.{wellFormed}
 use Rattle.rows.proofs.Limit.{rows-few}
 use Rattle.places.specs.declared.OpenLoop.{OpenLoop}
 use Rattle.places.specs.declared.Rooms.{Rooms}
-use Rattle.places.specs.Items.{Kernel, kernelOf, isLabel, isJump, size, total, place, nest, labelWidth, jumpWidth}
+use Rattle.places.specs.Items.{Kernel, kernelOf, isLabel, isJump, total, place, labelWidth, jumpWidth}
 use Rattle.places.specs.Looking.{deepest}
-use Rattle.places.specs.Verdict.{reaches, verdictAt, verdict, taken}
+use Rattle.places.specs.Verdict.{verdictAt, reachAt, judgement, taken}
 use Rattle.places.specs.Left.{Lent, lentOf, roomsIn, left, gather, put, zeroLoop, Outcome, outcome, built, buildOf, Builds}
-use Rattle.places.proofs.Emitted.{emits, place-emitted}
-use Rattle.prefixes.proofs.Totals.{total-up}
-use Rattle.prefixes.proofs.Passing.{Fits, fits}
+use Rattle.places.proofs.Emitted.{place-emitted}
+use Rattle.prefixes.proofs.Passing.{fits}
 use Rattle.tables.specs.Tables.{wiped}
 use Rattle.tables.specs.Held.{HoldsLabels}
-use Rattle.tables.proofs.Stores.{table-is}
 use Rattle.tables.proofs.Held.{labels-length, jumps-length, labels-are, jumps-are, labels-held}
-use Rattle.tables.proofs.Fronts.{Front, rest-is, put-good, put-refused, front-refused}
+use Rattle.tables.proofs.Fronts.{Front, put-good, put-refused, front-refused}
 use Rattle.checks.specs.Rooming.{RoomingIn}
 use Rattle.checks.proofs.Rooming.{rooming-of}
 use Rattle.plain.specs.declared.first.Before.{Before}
 use Rattle.plain.specs.declared.first.Placed.{Placed}
 use Rattle.plain.specs.Once.{written}
-use Rattle.plain.specs.Plain.{beforeRow, labelsAt, jumpsAt, rowsVerdict, RoomingOf, Walked, WalkedAll, tables, aims, Writable, Wiped, Concluding, Ended, Concluded}
+use Rattle.plain.specs.Plain.{beforeRow, labelsAt, jumpsAt, rowsJudged, RoomingOf, Walked, WalkedAll, tables, aims, Writable, Wiped, Concluding, Ended, Concluded}
+use Rattle.plain.proofs.Asked.{fit, open-late, jumped, late, early, all-good}
 use Rattle.plain.proofs.Walking.{labels-long, jumps-long}
+use Rattle.plain.proofs.Written.{walked, walked-is, walked-rest}
 
 pub walking-of : {r : Rooms} (lent : Lent) → r ≡ roomsIn lent → RoomingOf r (tables (lent .labels) (lent .jumps))
 walking-of lent e = let g = rooming-of e in omega (arith, g)
-
--- ---- orders
--- a refusal of the first two is one of all three
-early : (a b c : Verdict) {why : Refusal} → orElse a b ≡ Refused why → orElse a (orElse b c) ≡ Refused why
-early Good Good c {why} e = absurd (refused-good why (sym e))
-early Good (Refused r) c e = e
-early (Refused r) b c e = e
-
--- a walk whose checks do not look at what it has: the first that fails
-scan-first : {X : Type 0} (f : ℕ → Verdict) (nxt : ℕ → X → X) (x : X) (n : ℕ) → scanChk (λ i y. f i) nxt x n 0 ≡ firstOf f n
-scan-first f nxt x n =
-    ⊎-elim (λ all. all-scan (λ i y. f i) nxt x n 0 (λ q u v. all q (omega arith)) ∙ sym (all-first f n all))
-    (λ s.
-    scan-stop (λ i y. f i) nxt x n 0 (s .row) (omega arith) (let h = s .before in omega arith) (λ q u v. s .earlier q v) (s .fails) .0
-    ∙ sym (stop-first f n s))
-    (either f n)
-
-module _ (k : Kernel) (r : Rooms) where
-  open Kernel k using (it, n)
-
-  taken-passes : AllPass (verdictAt k r) (taken k r)
-  taken-passes =
-      ⊎-elim (λ all. subst (AllPass (verdictAt k r)) (sym (all-passing (verdictAt k r) n all)) all)
-      (λ s. subst (AllPass (verdictAt k r)) (sym (stop-passing (verdictAt k r) n s)) (s .earlier))
-      (either (verdictAt k r) n)
-
-  pub fit : Fits it r (taken k r)
-  fit = fits k r (taken k r) taken-passes
-
-  -- no row is refused, and every loop is closed
-  pub record AllGood : Type 0 where
-    pub passes : AllPass (verdictAt k r) n
-    pub closed : nest it n ≡ 0
-    pub whole : taken k r ≡ n
-
-  pub all-good : rowsVerdict k r ≡ Good → AllGood
-  all-good e =
-      let g = orElse-good (firstOf (verdictAt k r) n) (when (ltb 0 (nest it n)) UnclosedLoop) e in
-      let p = first-all (verdictAt k r) n (g .0) in
-      let c = ltb-false 0 (nest it n) (when-good _ _ (g .1)) in
-      record { passes = p; closed = omega arith; whole = all-passing (verdictAt k r) n p }
 
 -- ---- a list of rows
 module _ (k : Kernel) (few : k .n ≤ 4194304) {r : Rooms} (lent : Lent) (e : r ≡ roomsIn lent) {p : Placed} {ls js : List ℕ} (y : Walked k r (tables (lent .labels) (lent .jumps)) p (tables ls js)) where
@@ -136,10 +92,11 @@ module _ (k : Kernel) (few : k .n ≤ 4194304) {r : Rooms} (lent : Lent) (e : r 
             };
       }
 
-  -- ---- what is left in these rooms, with this verdict
-  abbrev come : Rooms → Verdict → Outcome
-  come r v =
-      outcome (answerOf v (place it n))
+  -- ---- what is left in these rooms, with this judgement
+  abbrev come : Rooms → Judged → Outcome
+  come r j =
+      let v = j .verdict in
+      outcome (answerOf j (place it n))
       (record {
         parcels = put v (gather (λ q. left k q (it q) .parcels) (taken k r)) (lent .parcels);
         labels = put v (gather (λ q. left k q (it q) .labels) (taken k r)) (lent .labels);
@@ -147,8 +104,8 @@ module _ (k : Kernel) (few : k .n ≤ 4194304) {r : Rooms} (lent : Lent) (e : r 
         loops = replicate (deepest it (taken k r)) zeroLoop ++ drop (deepest it (taken k r)) (lent .loops);
       })
 
-  abbrev O : Verdict → Outcome
-  O v = come r v
+  abbrev O : Judged → Outcome
+  O j = come r j
 
   -- an answer and the buffers are an outcome
   pub record Is (o : Outcome) (a : Answer) (left : Lent) : Type 0 where
@@ -162,12 +119,12 @@ module _ (k : Kernel) (few : k .n ≤ 4194304) {r : Rooms} (lent : Lent) (e : r 
     abbrev after : Lent
     after = lentOf (lent′ .parcels) (lent′ .labels) (lent′ .jumps) ks
 
-    loops-are : ks ≡ O Good .lent .loops
+    loops-are : ks ≡ O (ofRow 0 Good) .lent .loops
     loops-are = z ∙ ap (λ (b : Before). wiped zeroLoop (b .deepest) (lent .loops)) (y .before)
 
     -- refused, with any parcels that keep the rest
-    refused-is : (why : Refusal) (ps : List ℕ) → drop (place it t) ps ≡ drop (place it t) (lent .parcels) → Wiped why (p .before) (lentOf ps ls js []) a lent′ → Is (O (Refused why)) a after
-    refused-is why ps d w =
+    refused-is : (why : Refusal) (row : ℕ) (ps : List ℕ) → drop (place it t) ps ≡ drop (place it t) (lent .parcels) → Wiped why row (p .before) (lentOf ps ls js []) a lent′ → Is (O (ofRow row (Refused why))) a after
+    refused-is why row ps d w =
         let b = y .before in
         record {
           answer = w .answer;
@@ -178,53 +135,34 @@ module _ (k : Kernel) (few : k .n ≤ 4194304) {r : Rooms} (lent : Lent) (e : r 
         }
 
     -- ---- the second walk
-    module _ (good : rowsVerdict k r ≡ Good) where
-      abbrev X : ℕ → List ℕ
-      X i = scanAt (aims k) (written k) (lent .parcels) i
-
+    module _ (good : rowsJudged k r .verdict ≡ Good) where
       whole : t ≡ n
       whole = all-good k r good .whole
 
       place-fits : place it n ≤ length (lent .parcels)
       place-fits = let f = fits k r n (all-good k r good .passes) in omega (arith, rooming .parcels-in, f .parcels)
 
-      -- its first i rows
-      X-is : (i : ℕ) → i ≤ n → Front (X i) (gather (λ q. left k q (it q) .parcels) i) (lent .parcels) (place it i)
-      X-is i h =
-          record {
-            held = table-is X (λ q. left k q (it q) .parcels) (place it) refl (λ q. ap (λ (m : ℕ). place it q + m) (sym (emits k q (it q)))) (λ q. refl) i (let u = total-up size it i n h in let v = place-fits in omega arith);
-            many = place-emitted k i;
-          }
+      abbrev W : ℕ → List ℕ
+      W i = walked k (lent .parcels) place-fits i
 
-      rest : (i : ℕ) → i ≤ n → drop (place it n) (X i) ≡ drop (place it n) (lent .parcels)
-      rest i h =
-          let u = total-up size it i n h in
-          let c : place it n - place it i + place it i ≡ place it n = omega arith in
-          let d : place it i + (place it n - place it i) ≡ place it n = omega arith in
-          cut (X i) ∙ ap (drop (place it n - place it i)) (rest-is (X-is i h)) ∙ sym (cut (lent .parcels))
+      ended-is : Ended k (p .before) (lentOf (lent .parcels) ls js []) a lent′ → Is (O (firstIn (reachAt k) n)) a after
+      ended-is w = subst (λ (j : Judged). Is (O j) a after) said (go (w .judged .verdict) refl)
         where
-          cut : (l : List ℕ) → drop (place it n) l ≡ drop (place it n - place it i) (drop (place it i) l)
-          cut l =
-              let u = total-up size it i n h in
-              let d : place it n ≡ place it i + (place it n - place it i) = omega arith in
-              ap (λ (m : ℕ). drop m l) d ∙ sym (drop-drop (place it n - place it i) (place it i) l)
-
-      ended-is : Ended k (p .before) (lentOf (lent .parcels) ls js []) a lent′ → Is (O (firstOf (λ i. reaches k i (it i)) n)) a after
-      ended-is w = go (w .verdict) refl
-        where
-          said : w .verdict ≡ firstOf (λ i. reaches k i (it i)) n
-          said = w .came .outcome ∙ scan-first (λ i. reaches k i (it i)) (written k) (lent .parcels) n
+          said : w .judged ≡ firstIn (reachAt k) n
+          said =
+              let s = scan-first (reachAt k) (written k) (lent .parcels) n in
+              ap₂ ofRow (w .came .end ∙ s .1) (w .came .outcome ∙ s .0)
 
           ends : ℕ
           ends = scanEnd (aims k) (written k) (lent .parcels) n 0
 
-          go : (v : Verdict) → w .verdict ≡ v → Is (O (firstOf (λ i. reaches k i (it i)) n)) a after
+          go : (v : Verdict) → w .judged .verdict ≡ v → Is (O (w .judged)) a after
           go Good q =
               let g = w .accepted q in
               let s = scan-end (aims k) (written k) (lent .parcels) n 0 (sym (w .came .outcome) ∙ q) in
-              let x : w .parcels ≡ X t = w .came .here ∙ ap X (s ∙ (let c : 0 + n ≡ n = omega arith in c) ∙ sym whole) in
-              let f : Front (w .parcels) (gather (λ i. left k i (it i) .parcels) t) (lent .parcels) (place it t) = subst (λ (l : List ℕ). Front l (gather (λ i. left k i (it i) .parcels) t) (lent .parcels) (place it t)) (sym x) (X-is t (omega (arith, whole))) in
-              subst (λ (v : Verdict). Is (O v) a after) (sym q ∙ said)
+              let x : w .parcels ≡ W t = w .came .here ∙ ap W (s ∙ (let c : 0 + n ≡ n = omega arith in c) ∙ sym whole) in
+              let f : Front (w .parcels) (gather (λ i. left k i (it i) .parcels) t) (lent .parcels) (place it t) = subst (λ (l : List ℕ). Front l (gather (λ i. left k i (it i) .parcels) t) (lent .parcels) (place it t)) (sym x) (walked-is k (lent .parcels) place-fits t (omega (arith, whole))) in
+              subst (λ (v : Verdict). Is (O (ofRow (w .judged .row) v)) a after) (sym q)
               (record {
                 answer = g .0 ∙ ap (λ (b : Before). answer.Accepted (b .place)) (y .before) ∙ ap (λ (i : ℕ). answer.Accepted (place it i)) whole;
                 parcels = ap (λ (l : Lent). l .parcels) (g .1) ∙ put-good f;
@@ -234,23 +172,32 @@ module _ (k : Kernel) (few : k .n ≤ 4194304) {r : Rooms} (lent : Lent) (e : r 
               })
           go (Refused why) q =
               let l = scan-low (aims k) (written k) (lent .parcels) n 0 in
-              subst (λ (v : Verdict). Is (O v) a after) (sym q ∙ said)
-              (refused-is why (w .parcels)
-              (subst (λ (i : ℕ). drop (place it i) (w .parcels) ≡ drop (place it i) (lent .parcels)) (sym whole) (ap (drop (place it n)) (w .came .here) ∙ rest ends (omega arith)))
+              subst (λ (v : Verdict). Is (O (ofRow (w .judged .row) v)) a after) (sym q)
+              (refused-is why (w .judged .row) (w .parcels)
+              (subst (λ (i : ℕ). drop (place it i) (w .parcels) ≡ drop (place it i) (lent .parcels)) (sym whole) (ap (drop (place it n)) (w .came .here) ∙ walked-rest k (lent .parcels) place-fits ends (omega arith)))
               (w .refused why q))
 
     finished-is : Concluded k p (lentOf (lent .parcels) ls js []) a lent′ → Is (built k lent) a after
-    finished-is w = subst (λ (r : Rooms). Is (come r (verdict k r)) a after) e (go (p .verdict) refl)
+    finished-is w = subst (λ (r : Rooms). Is (come r (judgement k r)) a after) e (go (p .verdict) refl)
       where
-        go : (v : Verdict) → p .verdict ≡ v → Is (O (verdict k r)) a after
+        -- a last one: of a good one no row is told
+        last : Is (O (firstIn (reachAt k) n)) a after → Is (O (foremost (firstIn (reachAt k) n ∷ []))) a after
+        last i = go′ (firstOf (reachAt k) n) refl
+          where
+            go′ : (v : Verdict) → firstOf (reachAt k) n ≡ v → Is (O (foremost (firstIn (reachAt k) n ∷ []))) a after
+            go′ (Refused why) q = subst (λ (j : Judged). Is (O j) a after) (sym (foremost-here (jumped k r) [] q)) i
+            go′ Good q = subst (λ (v : Verdict). Is (O (ofRow (ifGood v 0 (passing (reachAt k) n)) (orElse v Good))) a after) (sym q) (subst (λ (v : Verdict). Is (O (ofRow (passing (reachAt k) n) v)) a after) q i)
+
+        go : (v : Verdict) → p .verdict ≡ v → Is (O (judgement k r)) a after
         go (Refused why) q =
-            let s : verdict k r ≡ Refused why = early (firstOf (verdictAt k r) n) (when (ltb 0 (nest it n)) UnclosedLoop) _ (sym (y .verdict) ∙ q) in
-            subst (λ (v : Verdict). Is (O v) a after) (sym s) (refused-is why (lent .parcels) refl (w .stopped why q))
+            let s = sym (y .verdict) ∙ q in
+            let j : ofRow (p .row) (Refused why) ≡ judgement k r = ap₂ ofRow (y .row) (sym s) ∙ sym (early k r s) in
+            subst (λ (j : Judged). Is (O j) a after) j (refused-is why (p .row) (lent .parcels) refl (w .stopped why q))
         go Good q =
             let g = sym (y .verdict) ∙ q in
-            let h = orElse-good (firstOf (verdictAt k r) n) (when (ltb 0 (nest it n)) UnclosedLoop) g in
-            let s : verdict k r ≡ firstOf (λ i. reaches k i (it i)) n = rw (h .0, h .1) (last-one _) in
-            subst (λ (v : Verdict). Is (O v) a after) (sym s) (ended-is g (w .went q))
+            let h = all-good k r g in
+            let s : judgement k r ≡ foremost (firstIn (reachAt k) n ∷ []) = foremost-on (firstIn (verdictAt k r) n) (late k r) (h .rows) ∙ foremost-on (open-late k r) (jumped k r ∷ []) (h .late) in
+            subst (λ (j : Judged). Is (O j) a after) (sym s) (last (ended-is g (w .went q)))
 
 -- ---- any slice
 module _ {rows names : List ℕ} {r : Rooms} (lent : Lent) (e : r ≡ roomsIn lent) {p : Placed} {ls js : List ℕ} (x : WalkedAll rows names r (tables (lent .labels) (lent .jumps)) p (tables ls js)) where
@@ -289,11 +236,11 @@ module _ {rows names : List ℕ} {r : Rooms} (lent : Lent) (e : r ≡ roomsIn le
       go : (b : Bool) → formed b → Builds rows names lent (answered a) (lentOf (lent′ .parcels) (lent′ .labels) (lent′ .jumps) ks)
       go true f =
           let i = finished-is k (rows-few (length rows) f) lent e (x .read f) a lent′ ks z w in
-          done (subst (λ (b : Bool). Come a lent′ ks (cond b (built k lent) (outcome (answer.Refused RowSlice) lent))) (sym f) (i .answer, i .parcels, i .labels, i .jumps, i .loops))
+          done (subst (λ (b : Bool). Come a lent′ ks (cond b (built k lent) (outcome (answer.Refused RowSlice 0) lent))) (sym f) (i .answer, i .parcels, i .labels, i .jumps, i .loops))
       go false f =
           let u = x .unread f in
           let s = w .stopped RowSlice (u .verdict) in
           let b = u .before in
           done
-          (subst (λ (b : Bool). Come a lent′ ks (cond b (built k lent) (outcome (answer.Refused RowSlice) lent))) (sym f)
-          (s .answer, s .parcels ∙ rw b refl, s .labels ∙ rw b (u .labels), s .jumps ∙ rw b (u .jumps), z ∙ rw b refl))
+          (subst (λ (b : Bool). Come a lent′ ks (cond b (built k lent) (outcome (answer.Refused RowSlice 0) lent))) (sym f)
+          (s .answer ∙ ap (λ (row : ℕ). answer.Refused RowSlice row) (u .row), s .parcels ∙ rw b refl, s .labels ∙ rw b (u .labels), s .jumps ∙ rw b (u .jumps), z ∙ rw b refl))

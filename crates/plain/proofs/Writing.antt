@@ -2,12 +2,14 @@
 use mathlib.Core.Path.{_≡_, refl, sym, ap, _∙_, subst}
 use mathlib.Core.Logic.{⊎-elim}
 use mathlib.Core.Bool.{Bool, true, false, _&&_}
-use mathlib.Core.List.{List}
+use mathlib.Core.List.{List, [], _∷_}
 use Prim.Native.Nat.{ℕ, suc, _+_, _≤_, _<_}
 use native.Mathlib.Omega.{arith}
 use lib.ListN.{length}
 use lib.Dec.{eqb}
 use lib.Seq.{sets}
+use denote.Enum.Declared.{tagOf}
+use types.Run.{OneOf, miss}
 use borrow.Author.Tests.{eqb-true}
 use Rattle.refusals.specs.declared.Refusal.{Refusal}
 use Rattle.refusals.specs.declared.Verdict.{Verdict}
@@ -22,6 +24,7 @@ use Rattle.encode.specs.declared.Form.the-variants as form
 use Rattle.encode.specs.Encoding.{formParcels, formVerdict, jumpForm, loopForm, settled}
 use Rattle.encode.proofs.Reach.{jump-word, loop-word}
 use Rattle.coded.specs.declared.Coding.{Coding}
+use Rattle.coded.proofs.Coded.{the-type}
 use Rattle.coded.specs.declared.Coded.{Coded}
 use Rattle.coded.specs.declared.Coded.the-variants as coded
 use Rattle.coded.specs.declared.Coded.the-variants.{Instruction, Label, Jump, LoopBegin, LoopEnd}
@@ -38,7 +41,7 @@ use Rattle.prefixes.proofs.Passing.{Fits, passed, fits}
 use Rattle.tables.specs.Tables.{lookup}
 use Rattle.tables.proofs.Lookups.{placed, lookup-is}
 use Rattle.settling.specs.Settling.{aimForm}
-use Rattle.plain.specs.Plain.{jumpWord, Writable, Wrote}
+use Rattle.plain.specs.Plain.{jumpWord, jumpForms, Writable, Wrote}
 
 -- a form that is refused has no parcels
 no-parcels : (f : Form) {w : Refusal} → formVerdict f ≡ Refused w → (ps : List ℕ) (p : ℕ) → sets ps p (formParcels f) ≡ ps
@@ -68,6 +71,18 @@ found-holds t n e f =
     ⊎-elim (λ none. absurd (at-nothing e (sym f ∙ newest-none t n none)))
     (λ m. let z : at (m .row) ≡ at e = sym (newest-is t n m) ∙ f in let y : m .row ≡ e = cc in rw (← y) (m .holds))
     (latest-row t n)
+
+-- where a match has passed a jump by
+abbrev others : List ℕ
+others = 0 ∷ 1 ∷ 3 ∷ 4 ∷ 5 ∷ []
+
+pub no-word : (ns ls : List ℕ) (n p : ℕ) (x : Coded) → OneOf others (tagOf the-type x) → form.Leaf ≡ jumpForms ns ls n p x
+no-word ns ls n p (Instruction c) h = refl
+no-word ns ls n p (Label a b) h = refl
+no-word ns ls n p (Jump c a b) h = absurd (miss others 2 tt h)
+no-word ns ls n p (LoopBegin c m) h = refl
+no-word ns ls n p LoopEnd h = refl
+no-word ns ls n p (coded.Refused why) h = refl
 
 module _ (k : Kernel) {ls : List ℕ} {count room : ℕ} (w : Writable k ls count room) {i : ℕ} (before : i < k .n) where
   open Kernel k using (names, it, n)

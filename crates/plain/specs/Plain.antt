@@ -12,7 +12,8 @@ use Rattle.refusals.specs.declared.Refusal.{Refusal}
 use Rattle.refusals.specs.declared.Refusal.the-variants.{RowSlice, UnclosedLoop, UndefinedLabel}
 use Rattle.refusals.specs.declared.Verdict.{Verdict}
 use Rattle.refusals.specs.declared.Verdict.the-variants.{Good, Refused}
-use Rattle.refusals.specs.Order.{when, orElse, first, firstOf, ifGood}
+use Rattle.refusals.specs.Order.{when, first, ifGood, ofRow, firstIn, foremost}
+use Rattle.refusals.specs.declared.Judged.{Judged}
 use Rattle.refusals.specs.Scan.{Came}
 use Rattle.items.specs.declared.Condition.{Condition}
 use Rattle.encode.specs.declared.Form.{Form}
@@ -21,16 +22,17 @@ use Rattle.rows.specs.Rows.{mostRows, wellFormed}
 use Rattle.coded.specs.declared.Coded.{Coded}
 use Rattle.coded.specs.declared.Coded.the-variants as coded
 use Rattle.coded.specs.declared.Coded.the-variants.{Instruction, Label, Jump, LoopBegin, LoopEnd}
+use Rattle.coded.specs.Coded.{ofJump}
 use Rattle.coded.specs.Fine.{CodedFine}
 use Rattle.places.specs.declared.Rooms.{Rooms}
 use Rattle.places.specs.declared.Traits.{Traits}
 use Rattle.places.specs.Items.{Kernel, kernelOf, rowAt, rowsIn, about, isLabel, isJump, total, place, addressOf, nest, labelWidth, jumpWidth, mostParcels, mostEntries, mostLoops}
-use Rattle.places.specs.Looking.{deepest}
-use Rattle.places.specs.Verdict.{faults, reaches, verdictAt, taken}
+use Rattle.places.specs.Looking.{at, opener, closer, deepest}
+use Rattle.places.specs.Verdict.{faults, reaches, loopRow, verdictAt, taken}
 use Rattle.places.specs.Left.{Lent, lentOf, left}
 use Rattle.tables.specs.declared.Sought.{Sought}
 use Rattle.tables.specs.declared.Sought.the-variants.{At, Nowhere}
-use Rattle.tables.specs.Tables.{zeroed, Entries}
+use Rattle.tables.specs.Tables.{zeroed, lookup, Entries}
 use Rattle.tables.specs.Held.{HoldsLabels}
 use Rattle.settling.specs.Settling.{aimForm, Used}
 use Rattle.checks.specs.Checks.{instructionChk, labelChk, jumpChk, beginChk}
@@ -116,9 +118,24 @@ abbrev pub jumpsAt : Kernel → List ℕ → ℕ → List ℕ
 jumpsAt k js zero = js
 jumpsAt k js (suc i) = sets (jumpsAt k js i) (jumpWidth * total isJump (k .it) i) (left k i (k .it i) .jumps)
 
+-- past the last row: 23, if so many loops are open
+abbrev pub unclosed : Kernel → ℕ → Judged
+unclosed k depth = ofRow (opener (k .it) (k .n)) (when (ltb 0 depth) UnclosedLoop)
+
+abbrev pub lateOf : Kernel → ℕ → Judged
+lateOf k depth = foremost (unclosed k depth ∷ [])
+
+abbrev pub pastOf : Kernel → Before → Placed
+pastOf k b = record { before = b; verdict = lateOf k (b .depth) .verdict; row = lateOf k (b .depth) .row }
+
+pub record Passed (rows names : List ℕ) (b : Before) : Type 0 where
+  pub few : rowsIn rows ≤ mostRows
+  pub closed : Closed (rowAt rows names) (rowsIn rows)
+  pub depth-is : b .depth ≡ nest (rowAt rows names) (rowsIn rows)
+
 -- "rows in turn; then 23"
-abbrev pub rowsVerdict : Kernel → Rooms → Verdict
-rowsVerdict k r = orElse (firstOf (verdictAt k r) (k .n)) (when (ltb 0 (nest (k .it) (k .n))) UnclosedLoop)
+abbrev pub rowsJudged : Kernel → Rooms → Judged
+rowsJudged k r = foremost (firstIn (verdictAt k r) (k .n) ∷ unclosed k (nest (k .it) (k .n)) ∷ [])
 
 abbrev pub RoomingOf : Rooms → Lent → Type 0
 RoomingOf r lent = Rooming r (r .parcels) (length (lent .labels)) (length (lent .jumps)) (r .loops)
@@ -129,13 +146,15 @@ pub record Walking (rows : List ℕ) (r : Rooms) (lent : Lent) : Type 0 where
 
 pub record Walked (k : Kernel) (r : Rooms) (lent : Lent) (p : Placed) (left : Lent) : Type 0 where
   pub before : p .before ≡ beforeRow (k .it) (taken k r)
-  pub verdict : p .verdict ≡ rowsVerdict k r
+  pub verdict : p .verdict ≡ rowsJudged k r .verdict
+  pub row : p .row ≡ rowsJudged k r .row
   pub labels : left .labels ≡ labelsAt k (lent .labels) (taken k r)
   pub jumps : left .jumps ≡ jumpsAt k (lent .jumps) (taken k r)
 
 pub record Unread (lent : Lent) (p : Placed) (left : Lent) : Type 0 where
   pub before : p .before ≡ record { place = 0; labels = 0; jumps = 0; depth = 0; deepest = 0 }
   pub verdict : p .verdict ≡ Refused RowSlice
+  pub row : p .row ≡ 0
   pub labels : left .labels ≡ lent .labels
   pub jumps : left .jumps ≡ lent .jumps
 
@@ -152,6 +171,16 @@ tables ls js = lentOf [] ls js []
 abbrev pub jumpWord : Condition → ℕ → ℕ → ℕ → Sought → Form
 jumpWord c p a b (At q) = aimForm c p q
 jumpWord c p a b Nowhere = form.Refused (UndefinedLabel a b)
+
+abbrev pub jumpForms : List ℕ → List ℕ → ℕ → ℕ → Coded → Form
+jumpForms ns ls count p x = ofJump (λ c a b. jumpWord c p a b (lookup ns ls a b count 0)) form.Leaf x
+
+-- the word of the loop start in row i, once its end is looked for
+pub record StartWord (rows names : List ℕ) (i : ℕ) (f : Form) : Type 0 where
+  pub end : ℕ
+  pub within : end < rowsIn rows
+  pub found : closer (rowAt rows names) (rowsIn rows) i ≡ at end
+  pub is : f ≡ loopRow (rowAt rows names) end i (rowAt rows names i)
 
 -- whether its jump reaches its label
 abbrev pub aims : Kernel → ℕ → List ℕ → Verdict
@@ -179,8 +208,8 @@ pub record Wrote (k : Kernel) (i : ℕ) (ps : List ℕ) (r : Verdict) (ps′ : L
   pub parcels : ps′ ≡ ifGood r (written k i ps) ps
 
 -- ---- the end
-pub record Wiped (why : Refusal) (b : Before) (lent : Lent) (a : Answer) (lent′ : Lent) : Type 0 where
-  pub answer : a ≡ answer.Refused why
+pub record Wiped (why : Refusal) (row : ℕ) (b : Before) (lent : Lent) (a : Answer) (lent′ : Lent) : Type 0 where
+  pub answer : a ≡ answer.Refused why row
   pub parcels : lent′ .parcels ≡ zeroed (b .place) (lent .parcels)
   pub labels : lent′ .labels ≡ zeroed (labelWidth * b .labels) (lent .labels)
   pub jumps : lent′ .jumps ≡ zeroed (jumpWidth * b .jumps) (lent .jumps)
@@ -191,12 +220,12 @@ pub record Concluding (k : Kernel) (p : Placed) (lent : Lent) : Type 0 where
 
 -- the second walk's verdict and parcels; accepted, they are left
 pub record Ended (k : Kernel) (b : Before) (lent : Lent) (a : Answer) (lent′ : Lent) : Type 0 where
-  pub verdict : Verdict
+  pub judged : Judged
   pub parcels : List ℕ
-  pub came : Came (aims k) (written k) (lent .parcels) (k .n) verdict parcels
-  pub accepted : verdict ≡ Good → (a ≡ answer.Accepted (b .place)) × (lent′ ≡ lentOf parcels (lent .labels) (lent .jumps) [])
-  pub refused : (why : Refusal) → verdict ≡ Refused why → Wiped why b (lentOf parcels (lent .labels) (lent .jumps) []) a lent′
+  pub came : Came (aims k) (written k) (lent .parcels) (k .n) (judged .verdict) (judged .row) parcels
+  pub accepted : judged .verdict ≡ Good → (a ≡ answer.Accepted (b .place)) × (lent′ ≡ lentOf parcels (lent .labels) (lent .jumps) [])
+  pub refused : (why : Refusal) → judged .verdict ≡ Refused why → Wiped why (judged .row) b (lentOf parcels (lent .labels) (lent .jumps) []) a lent′
 
 pub record Concluded (k : Kernel) (p : Placed) (lent : Lent) (a : Answer) (lent′ : Lent) : Type 0 where
-  pub stopped : (why : Refusal) → p .verdict ≡ Refused why → Wiped why (p .before) lent a lent′
+  pub stopped : (why : Refusal) → p .verdict ≡ Refused why → Wiped why (p .row) (p .before) lent a lent′
   pub went : p .verdict ≡ Good → Ended k (p .before) lent a lent′

@@ -1,11 +1,8 @@
 // The first walk: where is each item, and is it refused. It leaves the label entries and the waiting jumps.
 ghost use mathlib.Core.Path.{_≡_};
 ghost use Prim.Native.Nat.{max};
-ghost use lib.Dec.{ltb};
-ghost use Rattle.refusals.specs.declared.Refusal.the-variants.{UnclosedLoop};
-ghost use Rattle.refusals.specs.Order.{when};
 ghost use Rattle.places.specs.Items.{kernelOf};
-ghost use Rattle.plain.specs.Plain.{passed, PassFine, checkAt, CheckFine, EnterFine, Entered, RoomingOf, Walking, Walked, WalkedAll, tables};
+ghost use Rattle.plain.specs.Plain.{passed, PassFine, checkAt, CheckFine, EnterFine, Entered, RoomingOf, Walking, Walked, WalkedAll, Passed, pastOf, tables};
 use coded::Coded;
 use places::JUMP_WIDTH;
 use places::LABEL_WIDTH;
@@ -33,10 +30,11 @@ const START: Before = Before {
     deepest: 0,
 };
 
-// What the first walk comes to: what the rows take that it passed, and the verdict on all rows.
+// What the first walk comes to: what the rows take that it passed, the verdict on all rows, and the row that this names.
 pub struct Placed {
     pub before: Before,
     pub verdict: Verdict,
+    pub row: u32,
 }
 
 // The first walk: 1 if the slice is no rows, else the rows in turn.
@@ -51,46 +49,63 @@ pub fn place_all(
     ensures { λ r. ⌜ WalkedAll (now (rows .entry)) (now (names .entry)) rooms (tables (now (labels .entry)) (now (jumps .entry))) r (tables (now (labels .exit)) (now (jumps .exit))) ⌝ }
 {
     if rows::well_formed(rows) {
-        return place_rows(rows, names, rooms, labels, jumps);
+        return place(rows, names, rooms, labels, jumps);
     }
     Placed {
         before: START,
         verdict: Verdict::Refused(Refusal::RowSlice),
+        row: 0,
     }
 }
 
 // The rows in turn, up to the first that is refused.
-fn place_rows(
-    rows: &[u32],
-    names: &[u8],
-    rooms: Rooms,
-    labels: &mut [u32],
-    jumps: &mut [u32],
-) -> Placed
+fn place(rows: &[u32], names: &[u8], rooms: Rooms, labels: &mut [u32], jumps: &mut [u32]) -> Placed
     requires { ⌜ Walking (now rows) rooms (tables (now labels) (now jumps)) ⌝ }
     ensures { λ r. ⌜ Walked (kernelOf (now (rows .entry)) (now (names .entry))) rooms (tables (now (labels .entry)) (now (jumps .entry))) r (tables (now (labels .exit)) (now (jumps .exit))) ⌝ }
 {
-    let n = rows.len() / ROW_WIDTH;
     let mut before = START;
     let mut i = 0;
-    while i < n {
+    while i < rows.len() / ROW_WIDTH {
+        let row = i as u32;
         let item = coded::coded_at(rows, i, names.len());
-        let fault = check(rows, names, rooms, labels, before, i, item);
-        match fault {
-            Verdict::Refused(r) => {
+        let verdict = check(rows, names, rooms, labels, before, i, item);
+        match verdict {
+            Verdict::Refused(_) => {
                 return Placed {
                     before,
-                    verdict: Verdict::Refused(r),
+                    verdict,
+                    row,
                 };
             }
             Verdict::Good => {}
         }
-        enter(item, i as u32, before, labels, jumps);
+        enter(item, row, before, labels, jumps);
         before = before.and(places::about(item));
         i += 1;
     }
-    let verdict = closed(before.depth);
-    Placed { before, verdict }
+    past_rows(rows, names, before)
+}
+
+// Past the last row: 23, if a loop is open, of the innermost start that still is.
+fn past_rows(rows: &[u32], names: &[u8], before: Before) -> Placed
+    requires { ⌜ Passed (now rows) (now names) before ⌝ }
+    ensures { λ r. ⌜ r ≡ pastOf (kernelOf (now (rows .entry)) (now (names .entry))) before ⌝ }
+{
+    if before.depth == 0 {
+        let verdict = Verdict::Good;
+        return Placed {
+            before,
+            verdict,
+            row: 0,
+        };
+    }
+    let row = ends::start_of(rows, names, rows.len() / ROW_WIDTH) as u32;
+    let verdict = Verdict::Refused(Refusal::UnclosedLoop);
+    Placed {
+        before,
+        verdict,
+        row,
+    }
 }
 
 // What the item of row i is refused for.
@@ -169,14 +184,4 @@ fn greater(a: usize, b: usize) -> usize
     ensures { λ r. ⌜ r ≡ max a b ⌝ }
 {
     if a < b { b } else { a }
-}
-
-// 23, if a loop is open.
-fn closed(depth: usize) -> Verdict
-    ensures { λ r. ⌜ r ≡ when (ltb 0 depth) UnclosedLoop ⌝ }
-{
-    if 0 < depth {
-        return Verdict::Refused(Refusal::UnclosedLoop);
-    }
-    Verdict::Good
 }

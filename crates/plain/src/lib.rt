@@ -33,7 +33,6 @@ pub fn build_plain(
     let rooms = Rooms::of(parcels.len(), labels.len(), jumps.len(), loops.len());
     // Where is each item, and is it refused?
     let placed = first::place_all(rows, names, rooms, &mut *labels, &mut *jumps);
-    // The loop places that the rows take are zero in every answer.
     let deep = deepest(placed);
     tables::loops::wipe(&mut *loops, deep);
     // What does each item come to?
@@ -47,7 +46,7 @@ pub fn build_plain(
     )
 }
 
-// The most loops that were open at once in the rows that were passed.
+// The most loops that were open at once in the rows that were passed: so many loop places are zero in every answer.
 fn deepest(placed: Placed) -> usize
     ensures { λ r. ⌜ r ≡ placed .before .deepest ⌝ }
 {
@@ -71,13 +70,14 @@ fn finish(
     let verdict = placed.verdict;
     match verdict {
         Verdict::Refused(r) => {
-            return refused(r, before, parcels, labels, jumps);
+            return refused(r, placed.row, before, parcels, labels, jumps);
         }
         Verdict::Good => {}
     }
-    let aims = second::write_rows(rows, names, labels, before.labels, parcels);
-    match aims {
-        Verdict::Refused(r) => refused(r, before, parcels, labels, jumps),
+    let aims = second::write(rows, names, labels, before.labels, parcels);
+    let verdict = aims.verdict;
+    match verdict {
+        Verdict::Refused(r) => refused(r, aims.row, before, parcels, labels, jumps),
         Verdict::Good => Answer::Accepted(before.place as u32),
     }
 }
@@ -85,13 +85,14 @@ fn finish(
 // The answer of a refusal, with zeros in what the rows before it took.
 fn refused(
     why: Refusal,
+    row: u32,
     before: Before,
     parcels: &mut [u16],
     labels: &mut [u32],
     jumps: &mut [u32],
 ) -> Answer
     requires { ⌜ Used (before .place) (before .labels) (before .jumps) (length (now parcels)) (length (now labels)) (length (now jumps)) ⌝ }
-    ensures { λ a. ⌜ Wiped why before (lentOf (now (parcels .entry)) (now (labels .entry)) (now (jumps .entry)) []) a (lentOf (now (parcels .exit)) (now (labels .exit)) (now (jumps .exit)) []) ⌝ }
+    ensures { λ a. ⌜ Wiped why row before (lentOf (now (parcels .entry)) (now (labels .entry)) (now (jumps .entry)) []) a (lentOf (now (parcels .exit)) (now (labels .exit)) (now (jumps .exit)) []) ⌝ }
 {
     settling::wipes::clear(
         before.place,
@@ -101,5 +102,5 @@ fn refused(
         labels,
         jumps,
     );
-    Answer::Refused(why)
+    Answer::Refused(why, row)
 }

@@ -5,38 +5,34 @@ ghost use lib.ListN.{length};
 ghost use lib.Seq.{sets};
 ghost use Rattle.refusals.specs.Scan.{Came};
 ghost use Rattle.encode.specs.Encoding.{formParcels, formVerdict};
-ghost use Rattle.places.specs.Items.{kernelOf, rowsIn, labelWidth, mostParcels};
-ghost use Rattle.tables.specs.Tables.{lookup, Entries};
+ghost use Rattle.coded.specs.Fine.{CodedFine};
+ghost use Rattle.places.specs.Items.{kernelOf, rowAt, rowsIn, place, labelWidth, mostParcels};
+ghost use Rattle.tables.specs.Tables.{Entries};
+ghost use Rattle.ends.specs.Ends.{Starts};
 ghost use Rattle.plain.specs.Once.{written};
-ghost use Rattle.plain.specs.Plain.{jumpWord, Writable, WriteFine, Wrote, aims};
+ghost use Rattle.plain.specs.Plain.{jumpForms, StartWord, Writable, WriteFine, Wrote, aims};
 use coded::Coded;
 use encode::Form;
-use items::Condition;
+use refusals::Judged;
 use refusals::Refusal;
 use refusals::Verdict;
 use rows::ROW_WIDTH;
 use tables::Sought;
 
-// The rows in turn, up to the first jump that is refused.
-pub fn write_rows(
-    rows: &[u32],
-    names: &[u8],
-    labels: &[u32],
-    count: usize,
-    parcels: &mut [u16],
-) -> Verdict
-    requires { ⌜ Writable (kernelOf (now rows) (now names)) (now labels) count (length (now parcels)) ⌝ }
-    ensures { λ r. ⌜ Came (aims (kernelOf (now (rows .entry)) (now (names .entry)))) (written (kernelOf (now (rows .entry)) (now (names .entry)))) (now (parcels .entry)) (rowsIn (now (rows .entry))) r (now (parcels .exit)) ⌝ }
+// The rows in turn, up to the first jump that is refused; `n` label entries stand.
+pub fn write(rows: &[u32], names: &[u8], labels: &[u32], n: usize, parcels: &mut [u16]) -> Judged
+    requires { ⌜ Writable (kernelOf (now rows) (now names)) (now labels) n (length (now parcels)) ⌝ }
+    ensures { λ r. ⌜ Came (aims (kernelOf (now (rows .entry)) (now (names .entry)))) (written (kernelOf (now (rows .entry)) (now (names .entry)))) (now (parcels .entry)) (rowsIn (now (rows .entry))) (r .verdict) (r .row) (now (parcels .exit)) ⌝ }
 {
-    let n = rows.len() / ROW_WIDTH;
     let mut at = 0;
     let mut i = 0;
-    while i < n {
+    while i < rows.len() / ROW_WIDTH {
         let item = coded::coded_at(rows, i, names.len());
-        let one = write(rows, names, labels, count, parcels, i, at, item);
-        match one {
-            Verdict::Refused(r) => {
-                return Verdict::Refused(r);
+        let verdict = write_item(rows, names, labels, n, parcels, i, at, item);
+        match verdict {
+            Verdict::Refused(_) => {
+                let row = i as u32;
+                return Judged { verdict, row };
             }
             Verdict::Good => {}
         }
@@ -44,21 +40,23 @@ pub fn write_rows(
         at += traits.size;
         i += 1;
     }
-    Verdict::Good
+    let verdict = Verdict::Good;
+    let row = i as u32;
+    Judged { verdict, row }
 }
 
 // What the item of row i comes to stands at its place; or why it comes to nothing.
-fn write(
+fn write_item(
     rows: &[u32],
     names: &[u8],
     labels: &[u32],
-    count: usize,
+    n: usize,
     parcels: &mut [u16],
     i: usize,
     at: usize,
     item: Coded,
 ) -> Verdict
-    requires { ⌜ WriteFine (kernelOf (now rows) (now names)) (now labels) count (length (now parcels)) i at item ⌝ }
+    requires { ⌜ WriteFine (kernelOf (now rows) (now names)) (now labels) n (length (now parcels)) i at item ⌝ }
     ensures { λ r. ⌜ Wrote (kernelOf (now (rows .entry)) (now (names .entry))) i (now (parcels .entry)) r (now (parcels .exit)) ⌝ }
 {
     match item {
@@ -66,19 +64,8 @@ fn write(
             let form = coding.form;
             put(parcels, at, form)
         }
-        Coded::Jump {
-            condition,
-            start,
-            length,
-        } => put(
-            parcels,
-            at,
-            jump_word(names, labels, count, at, condition, start, length),
-        ),
-        Coded::LoopBegin { .. } => {
-            let end = ends::end_of(rows, names, i);
-            put(parcels, at, ends::loop_word(rows, names, i, end))
-        }
+        Coded::Jump { .. } => put(parcels, at, jump_word(names, labels, n, at, item)),
+        Coded::LoopBegin { .. } => put(parcels, at, start_word(rows, names, i)),
         Coded::Label { .. } => Verdict::Good,
         Coded::LoopEnd => Verdict::Good,
         Coded::Refused(r) => Verdict::Refused(r),
@@ -94,22 +81,31 @@ fn put(parcels: &mut [u16], at: usize, form: Form) -> Verdict
     encode::form_verdict(form)
 }
 
-// The word of a jump at a place to the label of this name: 12 if there is none, 9 if it is too far.
-fn jump_word(
-    names: &[u8],
-    labels: &[u32],
-    count: usize,
-    at: usize,
-    condition: Condition,
-    start: u32,
-    len: u32,
-) -> Form
-    requires { ⌜ (labelWidth * count ≤ length (now labels)) × (start + len ≤ length (now names)) × Entries (now names) (now labels) count × (at ≤ mostParcels) ⌝ }
-    ensures { λ r. ⌜ r ≡ jumpWord condition at start len (lookup (now (names .entry)) (now (labels .entry)) start len count 0) ⌝ }
+// The word of a jump at a place to the label of its name: 12 if there is none, 9 if it is too far.
+fn jump_word(names: &[u8], labels: &[u32], n: usize, at: usize, item: Coded) -> Form
+    requires { ⌜ (labelWidth * n ≤ length (now labels)) × Entries (now names) (now labels) n × (at ≤ mostParcels) × CodedFine (length (now names)) item ⌝ }
+    ensures { λ r. ⌜ r ≡ jumpForms (now (names .entry)) (now (labels .entry)) n at item ⌝ }
 {
-    let found = tables::names::find(names, labels, count, start as usize, len as usize);
-    match found {
-        Sought::At(label) => encode::jump_form(condition, signs::apart(label as usize, at), false),
-        Sought::Nowhere => Form::Refused(Refusal::UndefinedLabel(start, len)),
+    match item {
+        Coded::Jump {
+            condition,
+            start,
+            length,
+        } => match tables::names::find(names, labels, n, start as usize, length as usize) {
+            Sought::At(label) => {
+                encode::jump_form(condition, signs::apart(label as usize, at), false)
+            }
+            Sought::Nowhere => Form::Refused(Refusal::UndefinedLabel(start, length)),
+        },
+        _ => Form::Leaf,
     }
+}
+
+// The word of the loop start in row i: its loop's end is looked for.
+fn start_word(rows: &[u32], names: &[u8], i: usize) -> Form
+    requires { ⌜ Starts (now rows) (rowAt (now rows) (now names)) i × (place (rowAt (now rows) (now names)) (rowsIn (now rows)) ≤ mostParcels) ⌝ }
+    ensures { λ r. ⌜ StartWord (now (rows .entry)) (now (names .entry)) i r ⌝ }
+{
+    let end = ends::end_of(rows, names, i);
+    ends::loop_word(rows, names, i, end)
 }

@@ -2,7 +2,7 @@
 use mathlib.Core.Path.{_≡_, refl, sym, ap, subst, _∙_}
 use mathlib.Core.Bool.{false, true≢false, cond}
 use mathlib.Core.List.{List, [], _∷_}
-use Prim.Native.Nat.{_-_, _<_}
+use Prim.Native.Nat.{ℕ, _-_, _<_}
 use native.Mathlib.Omega.{arith}
 use lib.ListN.{getD}
 use lib.IntN.{natAbs}
@@ -13,7 +13,7 @@ use Rattle.refusals.specs.declared.Refusal.{Refusal}
 use Rattle.refusals.specs.declared.Refusal.the-variants.{RowSlice, Row, Encoding, InvalidUniversalRegister, InvalidDmIndex, InvalidDmModifier, UnsupportedPostModifyRegister, Dag1StoreSource, BranchOutOfRange, CallTargetOutOfRange, DuplicateLabel, UndefinedLabel, InvalidPmIndex, InvalidPmModifier, MixedDag, SameDagRegister, NotACompute, MultifunctionOperand, DuplicateDestination, LoopCountZero, LoopOutOfRange, EmptyLoop, UnclosedLoop, UnmatchedLoopEnd, SharedLoopEnd, LoopTailNotFullWidth, BranchInLoop, LabelInLoop, NoRoomForParcels, NoRoomForLabels, NoRoomForJumps, NoRoomForLoops, BrokenSlot, NoRoomForBytes}
 use Rattle.refusals.specs.declared.Answer.{Answer}
 use Rattle.refusals.specs.declared.Answer.the-variants as answer
-use Rattle.refusals.specs.Numbers.{toldOf, answered}
+use Rattle.refusals.specs.Numbers.{toldOf, inRow, answered}
 use Rattle.refusals.proofs.Numbered.{numbered}
 
 abbrev refusals : Told → List Refusal
@@ -101,11 +101,15 @@ over-zero : (r : Refusal) → eqb (toldOf r .number) 0 ≡ false
 over-zero r = let h = numbered r .over in ne-eqb (toldOf r .number) 0 (λ (e : toldOf r .number ≡ 0). omega arith)
 
 abbrev pub answerFrom : Told → Answer
-answerFrom t = cond (eqb (t .number) 0) (answer.Accepted (t .count)) (answer.Refused (refusalFrom t))
+answerFrom t = cond (eqb (t .number) 0) (answer.Accepted (t .count)) (answer.Refused (refusalFrom t) (natAbs (t .third)))
+
+-- the row tells nothing of the refusal
+told-alone : (r : Refusal) (row : ℕ) → refusalFrom (inRow row (toldOf r)) ≡ refusalFrom (toldOf r)
+told-alone r row = refl
 
 pub answer-told : (a : Answer) → answered a .number < 34 → answerFrom (answered a) ≡ a
 answer-told (answer.Accepted n) h = refl
-answer-told (answer.Refused r) h = rw (over-zero r) (ap answer.Refused (refusal-told r (below r h)))
+answer-told (answer.Refused r row) h = rw (over-zero r) (ap (λ (r : Refusal). answer.Refused r row) (told-alone r row ∙ refusal-told r (below r h)))
 
 -- two refusals, or two answers, that tell the same are the same; 34 apart, whose detail has a largest value
 pub refusals-apart : (r r′ : Refusal) → toldOf r .number < 34 → toldOf r ≡ toldOf r′ → r ≡ r′

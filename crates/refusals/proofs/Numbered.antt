@@ -1,10 +1,10 @@
--- What every refusal tells: a number of the table, count 0, and a name's range for 11, 12 and 28 alone. Number 0 is acceptance.
+-- What every refusal tells: a number of the table, count 0, no row, and a name's range for 11, 12 and 28 alone. Number 0 is acceptance.
 use mathlib.Core.Path.{_≡_, refl, sym, ap, _∙_}
 use mathlib.Core.Logic.{_↔_}
 use mathlib.Core.Bool.{true, false, true≢false}
 use Prim.Native.Nat.{ℕ, _<_, _≤_}
 use native.Mathlib.Omega.{arith}
-use lib.IntN.{ℤ}
+use lib.IntN.{ℤ, pos}
 use lib.Dec.{T, ltb, leb, ltb→lt, leb→le}
 use Rattle.refusals.specs.declared.Told.{Told}
 use Rattle.refusals.specs.declared.Refusal.{Refusal}
@@ -13,20 +13,25 @@ use Rattle.refusals.specs.declared.Answer.{Answer}
 use Rattle.refusals.specs.declared.Answer.the-variants as answer
 use Rattle.refusals.specs.declared.Verdict.{Verdict}
 use Rattle.refusals.specs.declared.Verdict.the-variants as verdict
-use Rattle.refusals.specs.Numbers.{two, named, toldOf, answerOf, answered, checked, among, naming}
+use Rattle.refusals.specs.Numbers.{two, named, toldOf, inRow, answerIn, answered, among, naming}
+
+-- what a verdict tells, whatever row it names
+abbrev pub checked : Verdict → Told
+checked v = answered (answerIn 0 v 0)
 
 pub record Numbered (t : Told) : Type 0 where
   pub over : 0 < t .number
   pub last : t .number ≤ 34
   pub uncounted : t .count ≡ 0
+  pub rowless : t .third ≡ pos 0
   pub unnamed : among naming t ≡ false → (t .start ≡ 0) × (t .length ≡ 0)
 
 -- with details, and with a name
 detailed : {n : ℕ} {a b : ℤ} → T (ltb 0 n) → T (leb n 34) → Numbered (two n a b)
-detailed {n = n} h k = record { over = ltb→lt 0 n h; last = leb→le n 34 k; uncounted = refl; unnamed = λ f. (refl, refl) }
+detailed {n = n} h k = record { over = ltb→lt 0 n h; last = leb→le n 34 k; uncounted = refl; rowless = refl; unnamed = λ f. (refl, refl) }
 
 named-so : {n a b : ℕ} → T (ltb 0 n) → T (leb n 34) → among naming (named n a b) ≡ true → Numbered (named n a b)
-named-so {n = n} h k e = record { over = ltb→lt 0 n h; last = leb→le n 34 k; uncounted = refl; unnamed = λ f. absurd (true≢false (sym e ∙ f)) }
+named-so {n = n} h k e = record { over = ltb→lt 0 n h; last = leb→le n 34 k; uncounted = refl; rowless = refl; unnamed = λ f. absurd (true≢false (sym e ∙ f)) }
 
 pub numbered : (r : Refusal) → Numbered (toldOf r)
 numbered RowSlice = detailed tt tt
@@ -64,22 +69,25 @@ numbered (NoRoomForLoops a) = detailed tt tt
 numbered (BrokenSlot a) = detailed tt tt
 numbered (NoRoomForBytes a) = detailed tt tt
 
+-- the table names no row: without its row an answer tells what the table says
+pub without-row : (row : ℕ) (r : Refusal) → inRow 0 (inRow row (toldOf r)) ≡ toldOf r
+without-row row r =
+    let t = toldOf r in
+    ap (λ (z : ℤ). record { number = t .number; count = t .count; first = t .first; second = t .second; third = z; start = t .start; length = t .length }) (sym (numbered r .rowless))
+
 pub zero-accepts : (a : Answer) → answered a .number ≡ 0 → (n : ℕ) × (a ≡ answer.Accepted n)
 zero-accepts (answer.Accepted n) e = (n, refl)
-zero-accepts (answer.Refused r) e = let h = numbered r .over in absurd (omega arith)
+zero-accepts (answer.Refused r row) e = let h = numbered r .over in absurd (omega arith)
 
 pub zero-good : (v : Verdict) → checked v .number ≡ 0 → v ≡ verdict.Good
 zero-good verdict.Good e = refl
 zero-good (verdict.Refused r) e = let h = numbered r .over in absurd (omega arith)
 
 -- so a call answers 0 exactly where its verdict is good
-pub answers-zero : (v : Verdict) (n : ℕ) → (answered (answerOf v n) .number ≡ 0) ↔ (v ≡ verdict.Good)
-answers-zero verdict.Good n = ((λ e. refl), (λ e. refl))
-answers-zero (verdict.Refused r) n = ((λ e. zero-good (verdict.Refused r) e), (λ e. ap (λ (v : Verdict). checked v .number) e))
-
-pub checks-zero : (v : Verdict) → (checked v .number ≡ 0) ↔ (v ≡ verdict.Good)
-checks-zero v = (zero-good v, (λ e. ap (λ (v : Verdict). checked v .number) e))
+pub answers-zero : (row : ℕ) (v : Verdict) (n : ℕ) → (answered (answerIn row v n) .number ≡ 0) ↔ (v ≡ verdict.Good)
+answers-zero row verdict.Good n = ((λ e. refl), (λ e. refl))
+answers-zero row (verdict.Refused r) n = ((λ e. zero-good (verdict.Refused r) e), (λ e. ap (λ (v : Verdict). checked v .number) e))
 
 pub unnamed-answer : (a : Answer) → among naming (answered a) ≡ false → (answered a .start ≡ 0) × (answered a .length ≡ 0)
 unnamed-answer (answer.Accepted n) f = (refl, refl)
-unnamed-answer (answer.Refused r) f = numbered r .unnamed f
+unnamed-answer (answer.Refused r row) f = numbered r .unnamed f

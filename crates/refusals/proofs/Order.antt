@@ -9,7 +9,8 @@ use mathlib.Core.List.{List, [], _∷_}
 use Rattle.refusals.specs.declared.Refusal.{Refusal}
 use Rattle.refusals.specs.declared.Verdict.{Verdict}
 use Rattle.refusals.specs.declared.Verdict.the-variants.{Good, Refused}
-use Rattle.refusals.specs.Order.{when, orElse, first, firstOf, ifGood, passing}
+use Rattle.refusals.specs.declared.Judged.{Judged}
+use Rattle.refusals.specs.Order.{when, orElse, first, firstOf, ifGood, passing, firstIn, foremost, FirstAt}
 
 pub refused-good : (r : Refusal) → Refused r ≡ Good → ⊥
 refused-good r e = let z : _≡_ {A = ℕ} 0 1 = cc in omega arith
@@ -106,3 +107,19 @@ stop-passing f zero s = absurd (let h = s .before in omega arith)
 stop-passing f (suc n) s =
     ap (λ (v : Verdict). ifGood v (suc n) (passing f n)) (stop-first f (suc n) s)
     ∙ ⊎-elim (λ z. all-passing f n (λ q h. s .earlier q (omega arith)) ∙ sym z) (λ l. stop-passing f n (sooner f n s l)) (stop-split f n s)
+
+-- ---- the row that a refusal names
+pub first-at : (f : ℕ → Verdict) (n : ℕ) {why : Refusal} → firstIn f n .verdict ≡ Refused why → FirstAt f n why (firstIn f n .row)
+first-at f n {why} e = ⊎-elim (λ all. absurd (refused-good why (sym e ∙ all-first f n all))) stop (either f n)
+  where
+    stop : StopsAt f n → FirstAt f n why (passing f n)
+    stop s =
+        subst (FirstAt f n why) (sym (stop-passing f n s))
+        (record { within = s .before; refused = s .fails ∙ sym (stop-first f n s) ∙ e; earlier = s .earlier })
+
+-- it is the first of the list's; without a refusal it is asked on
+pub foremost-here : (j : Judged) (js : List Judged) {why : Refusal} → j .verdict ≡ Refused why → foremost (j ∷ js) ≡ j
+foremost-here j js e = rw e
+
+pub foremost-on : (j : Judged) (js : List Judged) → j .verdict ≡ Good → foremost (j ∷ js) ≡ foremost js
+foremost-on j js e = rw e refl

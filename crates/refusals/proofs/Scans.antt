@@ -7,8 +7,9 @@ use native.Mathlib.Nat.{eq-or-lt-of-le}
 use Rattle.refusals.specs.declared.Refusal.{Refusal}
 use Rattle.refusals.specs.declared.Verdict.{Verdict}
 use Rattle.refusals.specs.declared.Verdict.the-variants.{Good, Refused}
-use Rattle.refusals.specs.Order.{orElse}
-use Rattle.refusals.specs.Scan.{firstEnd, scanAt, scanChk, scanEnd}
+use Rattle.refusals.specs.Order.{orElse, firstOf, passing}
+use Rattle.refusals.specs.Scan.{firstEnd, scanAt, scanChk, scanEnd, all-scan, scan-end}
+use Rattle.refusals.proofs.Order.{AllPass, StopsAt, either, all-first, all-passing, stop-first, stop-passing}
 
 module _ {X : Type 0} (chk : ℕ → X → Verdict) (nxt : ℕ → X → X) (x₀ : X) where
   abbrev pub said : ℕ → Verdict
@@ -33,3 +34,22 @@ module _ {X : Type 0} (chk : ℕ → X → Verdict) (nxt : ℕ → X → X) (x�
       go : scanEnd chk nxt x₀ f (suc i) ≤ suc i + f → (v : Verdict) → firstEnd v i (scanEnd chk nxt x₀ f (suc i)) ≤ i + suc f
       go h Good = omega arith
       go h (Refused q) = omega arith
+
+-- a walk whose checks do not look at what it has: the first that fails, and its row
+module _ {X : Type 0} (f : ℕ → Verdict) (nxt : ℕ → X → X) (x : X) (n : ℕ) where
+  abbrev blind : ℕ → X → Verdict
+  blind i y = f i
+
+  all-so : AllPass f n → (scanChk blind nxt x n 0 ≡ firstOf f n) × (scanEnd blind nxt x n 0 ≡ passing f n)
+  all-so all =
+      let g = all-scan blind nxt x n 0 (λ q u v. all q (omega arith)) in
+      (g ∙ sym (all-first f n all), scan-end blind nxt x n 0 g ∙ (let w : 0 + n ≡ n = omega arith in w) ∙ sym (all-passing f n all))
+
+  stop-so : StopsAt f n → (scanChk blind nxt x n 0 ≡ firstOf f n) × (scanEnd blind nxt x n 0 ≡ passing f n)
+  stop-so s =
+      let h = s .before in
+      let t = scan-stop blind nxt x n 0 (s .row) (omega arith) (omega arith) (λ q u v. s .earlier q v) (s .fails) in
+      (t .0 ∙ sym (stop-first f n s), t .1 ∙ sym (stop-passing f n s))
+
+  pub scan-first : (scanChk (λ i y. f i) nxt x n 0 ≡ firstOf f n) × (scanEnd (λ i y. f i) nxt x n 0 ≡ passing f n)
+  scan-first = ⊎-elim all-so stop-so (either f n)

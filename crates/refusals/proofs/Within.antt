@@ -9,8 +9,9 @@ use Rattle.refusals.specs.declared.Told.{Told}
 use Rattle.refusals.specs.declared.Refusal.{Refusal}
 use Rattle.refusals.specs.declared.Verdict.{Verdict}
 use Rattle.refusals.specs.declared.Verdict.the-variants.{Good, Refused}
-use Rattle.refusals.specs.Numbers.{alone, answerOf, answered, checked, among}
+use Rattle.refusals.specs.Numbers.{alone, answerIn, answered, among}
 use Rattle.refusals.specs.Order.{when, orElse, first, firstOf}
+use Rattle.refusals.proofs.Numbered.{checked}
 
 -- ---- what holds of a good verdict, and of each refusal of an order, holds of what the order comes to
 module _ (P : Verdict → Type 0) (good : P Good) where
@@ -54,10 +55,6 @@ module _ (ns : List ℕ) where
   pub tells-firstOf : (f : ℕ → Verdict) (n : ℕ) → ((i : ℕ) → Tells ns (f i)) → Tells ns (firstOf f n)
   tells-firstOf f n h = holds-firstOf (Tells ns) refl f n h
 
-  pub tells-answer : (v : Verdict) (n : ℕ) → Tells ns v → among (0 ∷ ns) (answered (answerOf v n)) ≡ true
-  tells-answer Good n h = refl
-  tells-answer (Refused r) n h = h
-
 -- ---- a longer list of numbers
 either : {P : Type 0} (a b : Bool) → (a ≡ true → P) → (b ≡ true → P) → (a || b) ≡ true → P
 either true b f g e = f refl
@@ -75,6 +72,11 @@ both false b f e = absurd (true≢false (sym e))
 same-number : (ms : List ℕ) (t : Told) (n : ℕ) → t .number ≡ n → among ms t ≡ among ms (alone n)
 same-number [] t n e = refl
 same-number (m ∷ ms) t n e = rw (same-number ms t n e, e)
+
+-- its row does not alter what is told
+pub tells-answer : (ns : List ℕ) (row : ℕ) (v : Verdict) (n : ℕ) → Tells ns v → among (0 ∷ ns) (answered (answerIn row v n)) ≡ true
+tells-answer ns row Good n h = refl
+tells-answer ns row (Refused r) n h = same-number (0 ∷ ns) (answered (answerIn row (Refused r) n)) (checked (Refused r) .number) refl ∙ sym (same-number (0 ∷ ns) (checked (Refused r)) (checked (Refused r) .number) refl) ∙ h
 
 pub wider : (ns ms : List ℕ) (t : Told) → part ns ms ≡ true → among ns t ≡ true → among ms t ≡ true
 wider [] ms t p e = absurd (true≢false (sym e))

@@ -1,4 +1,5 @@
--- Document 01, "Refusal numbers": the number, the two details and the name's range of each refusal; and answers in these numbers.
+-- Document 01, "Refusal numbers": the number, the two details and the name's range of each refusal; document 02, wish 3: the row as a third
+-- detail; and answers in these numbers.
 use mathlib.Core.Bool.{Bool, false, _||_}
 use mathlib.Core.List.{List, [], _∷_}
 use Prim.Native.Nat.{ℕ, min}
@@ -9,25 +10,26 @@ use Rattle.refusals.specs.declared.Answer.{Answer}
 use Rattle.refusals.specs.declared.Answer.the-variants as answer
 use Rattle.refusals.specs.declared.Verdict.{Verdict}
 use Rattle.refusals.specs.declared.Verdict.the-variants as verdict
+use Rattle.refusals.specs.declared.Judged.{Judged}
 use Rattle.refusals.specs.declared.Refusal.{Refusal}
 use Rattle.refusals.specs.declared.Refusal.the-variants.{RowSlice, Row, Encoding, InvalidUniversalRegister, InvalidDmIndex, InvalidDmModifier, UnsupportedPostModifyRegister, Dag1StoreSource, BranchOutOfRange, CallTargetOutOfRange, DuplicateLabel, UndefinedLabel, InvalidPmIndex, InvalidPmModifier, MixedDag, SameDagRegister, NotACompute, MultifunctionOperand, DuplicateDestination, LoopCountZero, LoopOutOfRange, EmptyLoop, UnclosedLoop, UnmatchedLoopEnd, SharedLoopEnd, LoopTailNotFullWidth, BranchInLoop, LabelInLoop, NoRoomForParcels, NoRoomForLabels, NoRoomForJumps, NoRoomForLoops, BrokenSlot, NoRoomForBytes}
 
 -- a number alone, with one detail, with two, with a name
 abbrev pub alone : ℕ → Told
-alone n = record { number = n; count = 0; first = pos 0; second = pos 0; start = 0; length = 0 }
+alone n = record { number = n; count = 0; first = pos 0; second = pos 0; third = pos 0; start = 0; length = 0 }
 
 abbrev pub one : ℕ → ℤ → Told
-one n a = record { number = n; count = 0; first = a; second = pos 0; start = 0; length = 0 }
+one n a = record { number = n; count = 0; first = a; second = pos 0; third = pos 0; start = 0; length = 0 }
 
 abbrev pub two : ℕ → ℤ → ℤ → Told
-two n a b = record { number = n; count = 0; first = a; second = b; start = 0; length = 0 }
+two n a b = record { number = n; count = 0; first = a; second = b; third = pos 0; start = 0; length = 0 }
 
 abbrev pub named : ℕ → ℕ → ℕ → Told
-named n a b = record { number = n; count = 0; first = pos 0; second = pos 0; start = a; length = b }
+named n a b = record { number = n; count = 0; first = pos 0; second = pos 0; third = pos 0; start = a; length = b }
 
 -- "0 and the parcel count"
 abbrev pub counted : ℕ → Told
-counted n = record { number = 0; count = n; first = pos 0; second = pos 0; start = 0; length = 0 }
+counted n = record { number = 0; count = n; first = pos 0; second = pos 0; third = pos 0; start = 0; length = 0 }
 
 -- the largest detail; no slice has more bytes
 abbrev pub most : ℕ
@@ -70,19 +72,22 @@ toldOf (NoRoomForLoops room) = one 32 (pos room)
 toldOf (BrokenSlot row) = one 33 (pos row)
 toldOf (NoRoomForBytes bytes) = one 34 (pos (min bytes most))
 
--- the answer where a count was made
-abbrev pub answerOf : Verdict → ℕ → Answer
-answerOf verdict.Good n = answer.Accepted n
-answerOf (verdict.Refused r) n = answer.Refused r
+-- the answer where a count was made, or a refusal that names a row
+abbrev pub answerIn : ℕ → Verdict → ℕ → Answer
+answerIn row verdict.Good n = answer.Accepted n
+answerIn row (verdict.Refused r) n = answer.Refused r row
+
+abbrev pub answerOf : Judged → ℕ → Answer
+answerOf j n = answerIn (j .row) (j .verdict) n
+
+-- "carry the row number as a third detail"
+abbrev pub inRow : ℕ → Told → Told
+inRow row t = record { number = t .number; count = t .count; first = t .first; second = t .second; third = pos row; start = t .start; length = t .length }
 
 -- "A build answers 0 and the parcel count, or a refusal with count 0"
 abbrev pub answered : Answer → Told
 answered (answer.Accepted n) = counted n
-answered (answer.Refused r) = toldOf r
-
--- a check that finds nothing tells 0 and count 0
-abbrev pub checked : Verdict → Told
-checked v = answered (answerOf v 0)
+answered (answer.Refused r row) = inRow row (toldOf r)
 
 -- the number told is one of these
 abbrev pub among : List ℕ → Told → Bool

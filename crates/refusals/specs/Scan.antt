@@ -33,9 +33,10 @@ module _ {X : Type 0} (chk : ℕ → X → Verdict) (nxt : ℕ → X → X) (x�
     pub outcome : scanChk (n - i) i ≡ scanChk n 0
     pub end : scanEnd (n - i) i ≡ scanEnd n 0
 
-  -- what it comes to: the outcome, and the state where it ended
-  pub record Came (n : ℕ) (k : Verdict) (x : X) : Type 0 where
+  -- what it comes to: the outcome, where it ended, and the state there
+  pub record Came (n : ℕ) (k : Verdict) (e : ℕ) (x : X) : Type 0 where
     pub outcome : k ≡ scanChk n 0
+    pub end : e ≡ scanEnd n 0
     pub here : x ≡ scanAt (scanEnd n 0)
 
   pub going-start : (n : ℕ) → Going n 0 x₀
@@ -58,17 +59,17 @@ module _ {X : Type 0} (chk : ℕ → X → Verdict) (nxt : ℕ → X → X) (x�
           end = rw add-one (sym (rw (peel n i h, q) at (sym (g .end))));
         }
 
-    pub going-stop : i < n → {r : Refusal} → chk i x ≡ Refused r → {y : X} → y ≡ x → Came n (Refused r) y
+    pub going-stop : i < n → {r : Refusal} → chk i x ≡ Refused r → {y : X} → y ≡ x → Came n (Refused r) i y
     going-stop h {r} c e =
         let q : chk i (scanAt i) ≡ Refused r = at-chk ∙ c in
         let z : scanEnd n 0 ≡ i = sym (g .end) ∙ rw (peel n i h, q) in
-        record { outcome = sym (sym (g .outcome) ∙ rw (peel n i h, q)); here = e ∙ g .here ∙ ap (λ (y : ℕ). scanAt y) (sym z) }
+        record { outcome = sym (sym (g .outcome) ∙ rw (peel n i h, q)); end = sym z; here = e ∙ g .here ∙ ap (λ (y : ℕ). scanAt y) (sym z) }
 
-    pub going-end : n ≤ i → Came n Good x
+    pub going-end : n ≤ i → Came n Good i x
     going-end h =
         let e : n - i ≡ 0 = omega arith in
         let z : scanEnd n 0 ≡ i = sym (g .end) ∙ rw e in
-        record { outcome = sym (sym (g .outcome) ∙ rw e); here = g .here ∙ ap (λ (y : ℕ). scanAt y) (sym z) }
+        record { outcome = sym (sym (g .outcome) ∙ rw e); end = sym z; here = g .here ∙ ap (λ (y : ℕ). scanAt y) (sym z) }
 
   first-good : (c d : Verdict) → orElse c d ≡ Good → (c ≡ Good) × (d ≡ Good)
   first-good Good d e = (refl, e)

@@ -2,7 +2,7 @@
 ghost use mathlib.Core.Path.{_≡_};
 ghost use Prim.Native.Nat.{min};
 ghost use lib.IntN.{pos};
-ghost use Rattle.refusals.specs.Numbers.{alone, one, two, named, counted, most, toldOf, answered, checked};
+ghost use Rattle.refusals.specs.Numbers.{alone, one, two, named, counted, most, toldOf, inRow, answered, answerOf};
 
 // The refusals of document 01, in its order, under the Rust's names where it has one.
 pub enum Refusal {
@@ -57,20 +57,27 @@ pub enum Verdict {
     Refused(Refusal),
 }
 
-// What a build or a count answers: a count, or why the list is refused.
-pub enum Answer {
-    Accepted(u32),
-    Refused(Refusal),
+// A verdict, and the row that it names if it is a refusal.
+pub struct Judged {
+    pub verdict: Verdict,
+    pub row: u32,
 }
 
-// An answer in numbers: 0 and a count; or a refusal's number with count 0, its two details, and its name's range in the lent names
-// (0, 0 where it has none).
+// What a call on a list answers: a count, or why the list is refused and the row that this names; 0 if it names none.
+pub enum Answer {
+    Accepted(u32),
+    Refused(Refusal, u32),
+}
+
+// An answer in numbers: 0 and a count; or a refusal's number with count 0, its two details, the row that it names, and its name's range in
+// the lent names (0, 0 where it has none).
 #[repr(C)]
 pub struct Told {
     pub number: u32,
     pub count: u32,
     pub first: i64,
     pub second: i64,
+    pub third: i64,
     pub start: u32,
     pub length: u32,
 }
@@ -85,6 +92,7 @@ impl Told {
             count: 0,
             first: 0,
             second: 0,
+            third: 0,
             start: 0,
             length: 0,
         }
@@ -99,6 +107,7 @@ impl Told {
             count: 0,
             first,
             second: 0,
+            third: 0,
             start: 0,
             length: 0,
         }
@@ -113,6 +122,7 @@ impl Told {
             count: 0,
             first: first as i64,
             second: 0,
+            third: 0,
             start: 0,
             length: 0,
         }
@@ -138,6 +148,7 @@ impl Told {
             count: 0,
             first: first as i64,
             second: second as i64,
+            third: 0,
             start: 0,
             length: 0,
         }
@@ -152,6 +163,7 @@ impl Told {
             count: 0,
             first: 0,
             second: 0,
+            third: 0,
             start,
             length,
         }
@@ -166,8 +178,24 @@ impl Told {
             count,
             first: 0,
             second: 0,
+            third: 0,
             start: 0,
             length: 0,
+        }
+    }
+
+    // With a row as third detail.
+    fn in_row(self, row: u32) -> Told
+        ensures { λ r. ⌜ r ≡ inRow row self ⌝ }
+    {
+        Told {
+            number: self.number,
+            count: self.count,
+            first: self.first,
+            second: self.second,
+            third: row as i64,
+            start: self.start,
+            length: self.length,
         }
     }
 }
@@ -216,22 +244,28 @@ impl Refusal {
     }
 }
 
+impl Judged {
+    // The answer where a count was made.
+    pub fn answer(self, count: u32) -> Answer
+        ensures { λ r. ⌜ r ≡ answerOf self count ⌝ }
+    {
+        let verdict = self.verdict;
+        match verdict {
+            Verdict::Good => Answer::Accepted(count),
+            Verdict::Refused(why) => Answer::Refused(why, self.row),
+        }
+    }
+}
+
 // An answer in numbers.
 pub fn answered(answer: Answer) -> Told
     ensures { λ r. ⌜ r ≡ answered answer ⌝ }
 {
     match answer {
         Answer::Accepted(count) => Told::counted(count),
-        Answer::Refused(refusal) => refusal.told(),
-    }
-}
-
-// A verdict in numbers.
-pub fn checked(verdict: Verdict) -> Told
-    ensures { λ r. ⌜ r ≡ checked verdict ⌝ }
-{
-    match verdict {
-        Verdict::Good => Told::counted(0),
-        Verdict::Refused(refusal) => refusal.told(),
+        Answer::Refused(why, row) => {
+            let told = why.told();
+            told.in_row(row)
+        }
     }
 }

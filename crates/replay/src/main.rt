@@ -87,15 +87,15 @@ fn field(s: Line, row: &mut [u32; 17]) -> Line {
     }
 }
 
-// Whether a line more, of at most 73 bytes, has room.
+// Whether a line more, of at most 95 bytes, has room.
 fn has_room(out: &[u8], at: usize) -> bool
-    ensures { λ r. ⌜ (r ≡ true → at + 73 ≤ length (now (out .entry))) ⌝ }
+    ensures { λ r. ⌜ (r ≡ true → at + 95 ≤ length (now (out .entry))) ⌝ }
 {
     let long = out.len();
-    if long < 73 {
+    if long < 95 {
         return false;
     }
-    at <= long - 73
+    at <= long - 95
 }
 
 // A tab and a parcel in four hex digits, where it is one of the first `count`; the place after them.
@@ -126,7 +126,7 @@ fn put_parcels(out: &mut [u8], at: usize, places: [u16; 6], count: u32) -> usize
 
 // The line of an accepted instruction; the place after it.
 fn put_accepted(out: &mut [u8], at: usize, one: One) -> usize
-    requires { ⌜ at + 73 ≤ length (now out) ⌝ }
+    requires { ⌜ at + 95 ≤ length (now out) ⌝ }
 {
     let places = one.places;
     let number = text::put_head(out, at, b"ok\t", one.count as u64);
@@ -147,6 +147,7 @@ fn put_answer(out: &mut [u8], at: usize, one: One) -> usize {
         count: 0,
         first: one.first,
         second: one.second,
+        third: one.third,
         start: 0,
         length: 0,
     };

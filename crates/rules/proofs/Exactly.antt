@@ -14,7 +14,7 @@ use Rattle.refusals.specs.Order.{when, firstOf}
 use Rattle.coded.specs.declared.Coded.{Coded}
 use Rattle.coded.specs.declared.Coded.the-variants.{Refused}
 use Rattle.places.specs.Left.{Lent, roomsIn}
-use Rattle.places.specs.Verdict.{faults, reaches, verdictAt, verdict}
+use Rattle.places.specs.Verdict.{faults, reaches, reachAt, verdictAt, verdict}
 use Rattle.places.specs.Items.{Kernel, about, nest, size, isLabel, isJump}
 use Rattle.places.specs.declared.Rooms.{Rooms}
 use Rattle.prefixes.proofs.Names.{Named}
@@ -88,7 +88,7 @@ module _ (k : Kernel) (lent : Lent) where
   open Kernel k using (it, n)
 
   abbrev pub parts : List Verdict
-  parts = firstOf (verdictAt k (roomsIn lent)) n ∷ when (ltb 0 (nest it n)) UnclosedLoop ∷ firstOf (λ i. reaches k i (it i)) n ∷ []
+  parts = firstOf (verdictAt k (roomsIn lent)) n ∷ when (ltb 0 (nest it n)) UnclosedLoop ∷ firstOf (reachAt k) n ∷ []
 
   pub verdict-good : verdict k (roomsIn lent) ≡ Good ↔ (RowsPass k (roomsIn lent) × (nest it n ≡ 0) × JumpsReach k)
   verdict-good = (
@@ -96,12 +96,12 @@ module _ (k : Kernel) (lent : Lent) where
         let x = first-good parts g in (
           first-all (verdictAt k (roomsIn lent)) n (x .0),
           (let w = ltb-false 0 (nest it n) (when-good _ _ (x .1 .0)) in omega arith),
-          first-all (λ i. reaches k i (it i)) n (x .1 .1 .0),
+          first-all (reachAt k) n (x .1 .1 .0),
         )),
     (λ x.
         good-first parts (
           all-first (verdictAt k (roomsIn lent)) n (x .0),
-          (good-when _ _ (le-ltb 0 (nest it n) (let w = x .1 in omega arith)), (all-first (λ i. reaches k i (it i)) n (x .2), tt)),
+          (good-when _ _ (le-ltb 0 (nest it n) (let w = x .1 in omega arith)), (all-first (reachAt k) n (x .2), tt)),
         )),
   )
 

@@ -11,3 +11,4 @@ pub mod Numbers
 pub mod Answers
 pub mod Fits
 pub mod Short
+pub mod WhichRow

@@ -10,9 +10,9 @@ use Rattle.refusals.specs.declared.Refusal.{Refusal}
 use Rattle.refusals.specs.declared.Refusal.the-variants.{RowSlice, DuplicateLabel, UndefinedLabel, EmptyLoop, UnclosedLoop, UnmatchedLoopEnd, SharedLoopEnd, LoopTailNotFullWidth, BranchInLoop, LabelInLoop, NoRoomForParcels, NoRoomForLabels, NoRoomForJumps, NoRoomForLoops}
 use Rattle.refusals.specs.declared.Verdict.{Verdict}
 use Rattle.refusals.specs.declared.Verdict.the-variants.{Good, Refused}
-use Rattle.refusals.specs.Numbers.{toldOf, checked, answerOf, answered, among, reading, encoding, building, naming}
-use Rattle.refusals.proofs.Numbered.{numbered}
-use Rattle.refusals.proofs.Within.{Tells, tells-wider, part, none, other}
+use Rattle.refusals.specs.Numbers.{toldOf, answerIn, answered, among, reading, encoding, building, naming}
+use Rattle.refusals.proofs.Numbered.{checked, numbered}
+use Rattle.refusals.proofs.Within.{Tells, tells-answer, tells-wider, part, none, other}
 use Rattle.encode.proofs.Numbers.{loopNumbers}
 use Rattle.places.specs.Items.{Kernel, kernelOf, address}
 use Rattle.places.specs.Looking.{Found, at, nothing, shortOne}
@@ -40,7 +40,7 @@ module _ (k : Kernel) where
   -- of a shorter list without names
   among-these : (ns : List ℕ) → part (0 ∷ ns) (0 ∷ building) ≡ true → none (0 ∷ ns) naming ≡ true → (v : Verdict) → Tells ns v → Sound v
   among-these ns p n Good h = good
-  among-these ns p n (Refused r) h = unnamed r (tells-wider ns building (Refused r) p h) (other (0 ∷ ns) naming (toldOf r) n h)
+  among-these ns p n (Refused r) h = unnamed r (tells-wider ns building (Refused r) p h) (other (0 ∷ ns) naming (checked (Refused r)) n h)
 
   tail-found : (f : Found) (address : ℕ → ℕ) → Sound (whenFound f (λ q. LoopTailNotFullWidth (address q)))
   tail-found (at row) address = unnamed (LoopTailNotFullWidth (address row)) refl refl
@@ -69,9 +69,9 @@ module _ (k : Kernel) where
       }
 
 -- ---- an answer
-answer-sound : (k : Kernel) (v : Verdict) (count : ℕ) → Sound k v → Tellable (k .names) (answered (answerOf v count))
-answer-sound k Good count s = record { number = refl; within = omega arith; unnamed = λ f. (refl, refl) }
-answer-sound k (Refused r) count s = record { number = s .tells; within = s .within; unnamed = numbered r .unnamed }
+answer-sound : (k : Kernel) (row : ℕ) (v : Verdict) (count : ℕ) → Sound k v → Tellable (k .names) (answered (answerIn row v count))
+answer-sound k row Good count s = record { number = refl; within = omega arith; unnamed = λ f. (refl, refl) }
+answer-sound k row (Refused r) count s = record { number = tells-answer building row (Refused r) count (s .tells); within = s .within; unnamed = numbered r .unnamed }
 
 -- THE THEOREM: what a build tells is 0 or a number of its table, and the range of a name lies in the names; any other answer has range 0, 0
 pub build-tells : (rows names : List ℕ) (lent : Lent) (t : Told) (x : Lent) → Builds rows names lent t x → Tellable names t

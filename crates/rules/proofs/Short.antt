@@ -13,7 +13,8 @@ use Rattle.refusals.specs.declared.Refusal.{Refusal}
 use Rattle.refusals.specs.declared.Refusal.the-variants.{RowSlice, DuplicateLabel, UndefinedLabel, EmptyLoop, UnclosedLoop, UnmatchedLoopEnd, SharedLoopEnd, LoopTailNotFullWidth, BranchInLoop, LabelInLoop, NoRoomForParcels, NoRoomForLabels, NoRoomForJumps, NoRoomForLoops}
 use Rattle.refusals.specs.declared.Verdict.{Verdict}
 use Rattle.refusals.specs.declared.Verdict.the-variants.{Good, Refused}
-use Rattle.refusals.specs.Numbers.{toldOf, answerOf, answered, checked, among, reading, encoding}
+use Rattle.refusals.specs.Numbers.{toldOf, answerIn, answered, among, reading, encoding}
+use Rattle.refusals.proofs.Numbered.{checked}
 use Rattle.refusals.proofs.Within.{Tells, none, other}
 use Rattle.encode.proofs.Numbers.{loopNumbers}
 use Rattle.coded.specs.declared.Coded.{Coded}
@@ -113,9 +114,9 @@ module _ (k : Kernel) where
         loops-room = λ m. another (NoRoomForLoops m) refl;
       }
 
-  answer-told : (v : Verdict) (count : ℕ) → Promised v → Detail (answered (answerOf v count))
-  answer-told Good count p = λ e. absurd (omega arith)
-  answer-told (Refused w) count p = p .detail
+  answer-told : (row : ℕ) (v : Verdict) (count : ℕ) → Promised v → Detail (answered (answerIn row v count))
+  answer-told row Good count p = λ e. absurd (omega arith)
+  answer-told row (Refused w) count p = p .detail
 
 -- THE THEOREM: where a build tells 26, its detail is the parcel of the latest short one of a body's last 11
 pub short-told : (rows names : List ℕ) (lent : Lent) (t : Told) (x : Lent) → Builds rows names lent t x → t .number ≡ 26 → LatestShort (kernelOf rows names) (t .first)

@@ -14,7 +14,7 @@ use Rattle.refusals.specs.declared.Refusal.{Refusal}
 use Rattle.refusals.specs.declared.Refusal.the-variants.{RowSlice, DuplicateLabel, UndefinedLabel, EmptyLoop, UnclosedLoop, UnmatchedLoopEnd, SharedLoopEnd, LoopTailNotFullWidth, BranchInLoop, LabelInLoop, NoRoomForParcels, NoRoomForLabels, NoRoomForJumps, NoRoomForLoops}
 use Rattle.refusals.specs.declared.Verdict.{Verdict}
 use Rattle.refusals.specs.declared.Verdict.the-variants.{Good, Refused}
-use Rattle.refusals.specs.Numbers.{answerOf, answered, reading, encoding}
+use Rattle.refusals.specs.Numbers.{answerIn, answered, reading, encoding}
 use Rattle.refusals.specs.Order.{when, orElse, first, firstOf}
 use Rattle.refusals.proofs.Within.{Tells, holds-when, holds-first}
 use Rattle.items.specs.Kinds.{isBranch}
@@ -29,7 +29,7 @@ use Rattle.coded.specs.Coded.{readVerdict, encodes}
 use Rattle.coded.proofs.Numbers.{row-tells, encodes-tells}
 use Rattle.places.specs.Items.{Kernel, kernelOf, isLabel, isJump, sizeOf, total, place, address, entries, nest}
 use Rattle.places.specs.Looking.{Found, at, nothing, isFound, opener, sharer, shortOne, labelled}
-use Rattle.places.specs.Verdict.{whenFound, jumpOffset, loopRow, reach, reaches, faults, verdictAt, verdict}
+use Rattle.places.specs.Verdict.{whenFound, jumpOffset, loopRow, reach, reaches, reachAt, faults, verdictAt, verdict}
 use Rattle.places.specs.declared.Rooms.{Rooms}
 use Rattle.places.specs.Left.{Lent, roomsIn, outcome, built, Builds}
 use Rattle.refusals.proofs.Order.{all-first, either, stop-first}
@@ -163,7 +163,7 @@ module _ (k : Kernel) (lent : Lent) (P : Verdict → Type 0) (p : Holds k P) whe
           rows-in-turn P (p .good) (verdictAt k r) n (λ i h. row-holds i h (it i) refl),
           (
             if (ltb 0 (nest it n)) UnclosedLoop (p .unclosed),
-            (rows-in-turn P (p .good) (λ i. reaches k i (it i)) n (λ i h. jump-holds i (it i) refl), tt),
+            (rows-in-turn P (p .good) (reachAt k) n (λ i h. jump-holds i (it i) refl), tt),
           ),
         )
 
@@ -172,11 +172,11 @@ module _ (rows names : List ℕ) (lent : Lent) (P : Verdict → Type 0) (p : Hol
   abbrev rowed : ℕ → List ℕ
   rowed i = take rowWidth (drop (i * rowWidth) rows)
 
-  pub build-holds : (Q : Told → Type 0) → ((v : Verdict) (count : ℕ) → P v → Q (answered (answerOf v count))) → (t : Told) (x : Lent) → Builds rows names lent t x → Q t
+  pub build-holds : (Q : Told → Type 0) → ((row : ℕ) (v : Verdict) (count : ℕ) → P v → Q (answered (answerIn row v count))) → (t : Told) (x : Lent) → Builds rows names lent t x → Q t
   build-holds Q so t x b = subst Q (sym (b .answer)) (go (wellFormed (length rows)))
     where
-      go : (w : Bool) → Q (answered (cond w (built (kernelOf rows names) lent) (outcome (answer.Refused RowSlice) lent) .answer))
+      go : (w : Bool) → Q (answered (cond w (built (kernelOf rows names) lent) (outcome (answer.Refused RowSlice 0) lent) .answer))
       go true =
-          so (verdict (kernelOf rows names) (roomsIn lent)) _
+          so _ (verdict (kernelOf rows names) (roomsIn lent)) _
           (verdict-holds (kernelOf rows names) lent P p (λ i. row-tells (rowed i) (length names)) (λ i. encodes-tells (rowed i) (length names)))
-      go false = so (Refused RowSlice) 0 slice
+      go false = so 0 (Refused RowSlice) 0 slice

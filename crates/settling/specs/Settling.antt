@@ -9,7 +9,9 @@ use lib.IntN.{pos, _-ℤ_}
 use Rattle.refusals.specs.declared.Refusal.the-variants.{UndefinedLabel}
 use Rattle.refusals.specs.declared.Verdict.{Verdict}
 use Rattle.refusals.specs.declared.Verdict.the-variants.{Good, Refused}
+use Rattle.refusals.specs.declared.Judged.{Judged}
 use Rattle.refusals.specs.Order.{ifGood}
+use Rattle.refusals.specs.Scan.{Came}
 use Rattle.items.specs.declared.Condition.{Condition}
 use Rattle.encode.specs.declared.Form.{Form}
 use Rattle.encode.specs.Encoding.{formVerdict, jumpForm, settled}
@@ -53,6 +55,12 @@ module _ (k : Kernel) (ls : List ℕ) (n : ℕ) (js : List ℕ) where
 
   abbrev pub waited : ℕ → List ℕ → List ℕ
   waited q ps = rowAimed (k .names) ls n (getD js (jumpWidth * q) 0) ps (k .it (getD js (jumpWidth * q + 1) 0))
+
+  -- all of them, up to the first that is refused: the refusal names the row of the jump where they ended
+  pub record Aims (count : ℕ) (ps : List ℕ) (j : Judged) (ps′ : List ℕ) : Type 0 where
+    pub end : ℕ
+    pub came : Came waitChk waited ps count (j .verdict) end ps′
+    pub row : j .row ≡ ifGood (j .verdict) 0 (getD js (jumpWidth * end + 1) 0)
 
 -- ---- what the functions lean on
 pub record AimFine (ns ls : List ℕ) (n p room : ℕ) : Type 0 where

@@ -9,12 +9,12 @@ ghost use Rattle.encode.specs.Encoding.{formVerdict};
 ghost use Rattle.places.specs.Items.{kernelOf, mostParcels};
 ghost use Rattle.refusals.specs.Order.{ifGood};
 ghost use Rattle.encode.specs.Encoding.{settled};
-ghost use Rattle.refusals.specs.Scan.{Came};
 ghost use Rattle.coded.specs.Fine.{CodedFine};
-ghost use Rattle.settling.specs.Settling.{aimForm, Settles, waitChk, waited, AimFine, AimsFine};
+ghost use Rattle.settling.specs.Settling.{aimForm, Settles, AimFine, AimsFine, Aims};
 use coded::Coded;
 use items::Condition;
 use places::JUMP_WIDTH;
+use refusals::Judged;
 use refusals::Refusal;
 use refusals::Verdict;
 use tables::Sought;
@@ -64,7 +64,7 @@ fn aim_coded(
     }
 }
 
-// The waiting jumps in turn, up to the first that is refused.
+// The waiting jumps in turn, up to the first that is refused; the refusal names its row.
 pub fn aim_all(
     rows: &[u32],
     names: &[u8],
@@ -73,23 +73,29 @@ pub fn aim_all(
     n: usize,
     jumps: &[u32],
     count: usize,
-) -> Verdict
+) -> Judged
     requires { ⌜ AimsFine (kernelOf (now rows) (now names)) (now labels) n (now jumps) count (length (now parcels)) ⌝ }
-    ensures { λ r. ⌜ Came (waitChk (kernelOf (now (rows .entry)) (now (names .entry))) (now (labels .entry)) n (now (jumps .entry))) (waited (kernelOf (now (rows .entry)) (now (names .entry))) (now (labels .entry)) n (now (jumps .entry))) (now (parcels .entry)) count r (now (parcels .exit)) ⌝ }
+    ensures { λ r. ⌜ Aims (kernelOf (now (rows .entry)) (now (names .entry))) (now (labels .entry)) n (now (jumps .entry)) count (now (parcels .entry)) r (now (parcels .exit)) ⌝ }
 {
     let mut k = 0;
     while k < count {
         let p = jumps[JUMP_WIDTH * k] as usize;
-        let row = jumps[JUMP_WIDTH * k + 1] as usize;
-        let coded = coded::coded_at(rows, row, names.len());
+        let row = jumps[JUMP_WIDTH * k + 1];
+        let coded = coded::coded_at(rows, row as usize, names.len());
         let one = aim_coded(coded, names, parcels, labels, n, p);
         match one {
             Verdict::Refused(r) => {
-                return Verdict::Refused(r);
+                return Judged {
+                    verdict: Verdict::Refused(r),
+                    row,
+                };
             }
             Verdict::Good => {}
         }
         k += 1;
     }
-    Verdict::Good
+    Judged {
+        verdict: Verdict::Good,
+        row: 0,
+    }
 }

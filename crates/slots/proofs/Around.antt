@@ -2,7 +2,7 @@
 use mathlib.Core.Path.{refl}
 use mathlib.Core.List.{[], _∷_}
 use lib.IntN.{pos}
-use Rattle.refusals.specs.Numbers.{alone, one, counted}
+use Rattle.refusals.specs.Numbers.{alone, one}
 use Rattle.bounds.specs.Bounds.{fields, compute, boundsOf}
 use Rattle.bounds.specs.Checks.{said, placesOf, checkOf}
 use Rattle.computes.specs.Compute.{madeMulti, madeSingle}
@@ -11,29 +11,29 @@ use Rattle.encode.specs.Layouts.{layoutOf}
 use Rattle.encode.specs.Encoding.{formOf}
 use Rattle.rows.specs.Fields.{conditionOf, modeOf, aluOpOf, countOf, scalars, transfers, others, instructionOf}
 use Rattle.rows.specs.Rows.{computeOf, itemOf, readOf}
-use Rattle.slots.specs.Kernels.{Tells}
+use Rattle.slots.specs.Kernels.{Passes, Refuses}
 
 -- labels before, between and behind the two, one and many
 pub labels-around :
-    Tells ((28 ∷ 5 ∷ 0 ∷ 1 ∷ []) ∷ (48 ∷ []) ∷ (38 ∷ []) ∷ (38 ∷ []) ∷ []) (counted 0)
-    × Tells ((28 ∷ 5 ∷ 0 ∷ 1 ∷ []) ∷ (38 ∷ []) ∷ (48 ∷ []) ∷ (38 ∷ []) ∷ []) (counted 0)
-    × Tells ((29 ∷ 7 ∷ []) ∷ (38 ∷ []) ∷ (38 ∷ []) ∷ (48 ∷ []) ∷ []) (counted 0)
-    × Tells ((29 ∷ 7 ∷ []) ∷ (48 ∷ []) ∷ (48 ∷ []) ∷ (38 ∷ []) ∷ (48 ∷ []) ∷ (48 ∷ []) ∷ (48 ∷ []) ∷ (38 ∷ []) ∷ (48 ∷ []) ∷ []) (counted 0)
+    Passes ((28 ∷ 5 ∷ 0 ∷ 1 ∷ []) ∷ (48 ∷ []) ∷ (38 ∷ []) ∷ (38 ∷ []) ∷ [])
+    × Passes ((28 ∷ 5 ∷ 0 ∷ 1 ∷ []) ∷ (38 ∷ []) ∷ (48 ∷ []) ∷ (38 ∷ []) ∷ [])
+    × Passes ((29 ∷ 7 ∷ []) ∷ (38 ∷ []) ∷ (38 ∷ []) ∷ (48 ∷ []) ∷ [])
+    × Passes ((29 ∷ 7 ∷ []) ∷ (48 ∷ []) ∷ (48 ∷ []) ∷ (38 ∷ []) ∷ (48 ∷ []) ∷ (48 ∷ []) ∷ (48 ∷ []) ∷ (38 ∷ []) ∷ (48 ∷ []) ∷ [])
 unfolding fields compute boundsOf said placesOf checkOf madeMulti madeSingle inDag layoutOf formOf conditionOf modeOf aluOpOf countOf scalars transfers others instructionOf computeOf itemOf readOf
 labels-around = (refl, refl, refl, refl)
 
 -- "Loop starts, loop ends and labelled jumps still break a slot", behind a label too, "and a list that ends early does too"
 pub others-break :
-    Tells ((28 ∷ 5 ∷ 0 ∷ 1 ∷ []) ∷ (38 ∷ []) ∷ (48 ∷ []) ∷ (50 ∷ 0 ∷ 1 ∷ []) ∷ (38 ∷ []) ∷ []) (one 33 (pos 0))
-    × Tells ((28 ∷ 5 ∷ 0 ∷ 1 ∷ []) ∷ (38 ∷ []) ∷ (48 ∷ []) ∷ (51 ∷ []) ∷ (38 ∷ []) ∷ []) (one 33 (pos 0))
-    × Tells ((29 ∷ 7 ∷ []) ∷ (48 ∷ []) ∷ (49 ∷ 5 ∷ []) ∷ (38 ∷ []) ∷ (38 ∷ []) ∷ []) (one 33 (pos 0))
-    × Tells ((29 ∷ 7 ∷ []) ∷ (48 ∷ []) ∷ []) (one 33 (pos 0))
-    × Tells ((48 ∷ []) ∷ (29 ∷ 7 ∷ []) ∷ (48 ∷ []) ∷ (38 ∷ []) ∷ (48 ∷ []) ∷ []) (one 33 (pos 1))
+    Refuses ((28 ∷ 5 ∷ 0 ∷ 1 ∷ []) ∷ (38 ∷ []) ∷ (48 ∷ []) ∷ (50 ∷ 0 ∷ 1 ∷ []) ∷ (38 ∷ []) ∷ []) 0 (one 33 (pos 0))
+    × Refuses ((28 ∷ 5 ∷ 0 ∷ 1 ∷ []) ∷ (38 ∷ []) ∷ (48 ∷ []) ∷ (51 ∷ []) ∷ (38 ∷ []) ∷ []) 0 (one 33 (pos 0))
+    × Refuses ((29 ∷ 7 ∷ []) ∷ (48 ∷ []) ∷ (49 ∷ 5 ∷ []) ∷ (38 ∷ []) ∷ (38 ∷ []) ∷ []) 0 (one 33 (pos 0))
+    × Refuses ((29 ∷ 7 ∷ []) ∷ (48 ∷ []) ∷ []) 0 (one 33 (pos 0))
+    × Refuses ((48 ∷ []) ∷ (29 ∷ 7 ∷ []) ∷ (48 ∷ []) ∷ (38 ∷ []) ∷ (48 ∷ []) ∷ []) 1 (one 33 (pos 1))
 unfolding fields compute boundsOf said placesOf checkOf madeMulti madeSingle inDag layoutOf formOf conditionOf modeOf aluOpOf countOf scalars transfers others instructionOf computeOf itemOf readOf
 others-break = (refl, refl, refl, refl, refl)
 
 -- a row refusal behind comes first
 pub refusal-behind :
-    Tells ((29 ∷ 7 ∷ []) ∷ (48 ∷ []) ∷ (51 ∷ []) ∷ (13 ∷ []) ∷ []) (alone 2)
+    Refuses ((29 ∷ 7 ∷ []) ∷ (48 ∷ []) ∷ (51 ∷ []) ∷ (13 ∷ []) ∷ []) 3 (alone 2)
 unfolding fields compute boundsOf said placesOf checkOf madeMulti madeSingle inDag layoutOf formOf conditionOf modeOf aluOpOf countOf scalars transfers others instructionOf computeOf itemOf readOf
 refusal-behind = refl

@@ -1,36 +1,44 @@
 -- What the slot check tells: 0 exactly where every row is read and the slots of every jump are filled; else 1, a row refusal, or 33.
-use mathlib.Core.Path.{_≡_, refl, sym, ap, _∙_}
+use mathlib.Core.Path.{_≡_, refl, sym, ap, ap₂, _∙_}
 use mathlib.Core.Bool.{true, false, _&&_, not}
 use mathlib.Core.List.{List, [], _∷_}
 use mathlib.Core.Logic.{_↔_}
 use Prim.Native.Nat.{ℕ, _+_}
-use lib.ListN.{drop}
-use Rattle.refusals.specs.declared.Refusal.the-variants.{BrokenSlot}
+use lib.ListN.{length, drop}
+use Rattle.refusals.specs.declared.Refusal.the-variants.{RowSlice, BrokenSlot}
 use Rattle.refusals.specs.declared.Verdict.{Verdict}
 use Rattle.refusals.specs.declared.Verdict.the-variants.{Good}
 use Rattle.refusals.specs.declared.Told.{Told}
 use Rattle.refusals.specs.Numbers.{among}
-use Rattle.refusals.specs.Order.{firstOf}
-use Rattle.refusals.proofs.Numbered.{checks-zero}
-use Rattle.refusals.proofs.Within.{Tells, tells-when, tells-orElse, tells-firstOf, other}
+use Rattle.refusals.specs.Order.{when, orElse, firstOf}
+use Rattle.refusals.proofs.Numbered.{answers-zero}
+use Rattle.refusals.proofs.Within.{Tells, tells-when, tells-first, tells-firstOf, tells-answer, other}
+use Rattle.rows.specs.Rows.{wellFormed}
 use Rattle.coded.specs.Coded.{readVerdict}
 use Rattle.places.specs.Items.{rowAt, rowsIn}
-use Rattle.refusals.proofs.Order.{orElse-good, good-orElse, first-all, all-first}
-use Rattle.counts.specs.Counts.{listVerdict}
-use Rattle.counts.proofs.Numbers.{passes-good, list-tells, read-tells}
+use Rattle.refusals.proofs.Order.{orElse-good, good-orElse, last-one, first-all, all-first}
+use Rattle.counts.specs.Counts.{listJudged}
+use Rattle.counts.proofs.Numbers.{listed-verdict, passes-good, list-tells, read-tells}
 use Rattle.slots.specs.Slots.{opens, items, unlabelled, filled, slotVerdict, slotCheckOf, Filled, Checks, slotNumbers}
 
 module _ (rows names : List ℕ) where
   abbrev slot : ℕ → Verdict
   slot i = slotVerdict (rowAt rows names) (rowsIn rows) i
 
-  check-good : (slotCheckOf rows names ≡ Good) ↔ Filled rows names
+  -- without its row it is "1, then the first row refusal, then 33 for the first such jump"
+  pub checked-verdict :
+      slotCheckOf rows names .verdict
+      ≡ orElse (orElse (when (not (wellFormed (length rows))) RowSlice) (firstOf (λ i. readVerdict (rowAt rows names i)) (rowsIn rows))) (firstOf slot (rowsIn rows))
+  checked-verdict = ap₂ orElse (listed-verdict readVerdict rows names) (last-one (firstOf slot (rowsIn rows)))
+
+  check-good : (slotCheckOf rows names .verdict ≡ Good) ↔ Filled rows names
   check-good =
-      let p = passes-good readVerdict rows names in (
+      let p = passes-good readVerdict rows names in
+      let read = listJudged readVerdict rows names .verdict in (
         (λ e.
-            let g = orElse-good (listVerdict readVerdict rows names) (firstOf slot (rowsIn rows)) e in
-            record { passes = p .0 (g .0); slots = first-all slot (rowsIn rows) (g .1) }),
-        (λ f. good-orElse (listVerdict readVerdict rows names) (firstOf slot (rowsIn rows)) (p .1 (f .passes)) (all-first slot (rowsIn rows) (f .slots))),
+            let g = orElse-good read (orElse (firstOf slot (rowsIn rows)) Good) e in
+            record { passes = p .0 (g .0); slots = first-all slot (rowsIn rows) (sym (last-one (firstOf slot (rowsIn rows))) ∙ g .1) }),
+        (λ f. good-orElse read (orElse (firstOf slot (rowsIn rows)) Good) (p .1 (f .passes)) (last-one (firstOf slot (rowsIn rows)) ∙ all-first slot (rowsIn rows) (f .slots))),
       )
 
   slot-tells : (i : ℕ) → Tells slotNumbers (slot i)
@@ -40,16 +48,16 @@ module _ (rows names : List ℕ) where
   module _ {told : Told} (c : Checks rows names told) where
     pub check-zero : (told .number ≡ 0) ↔ Filled rows names
     check-zero =
-        let z = checks-zero (slotCheckOf rows names) in
+        let z = answers-zero (slotCheckOf rows names .row) (slotCheckOf rows names .verdict) 0 in
         let e = ap (λ (t : Told). t .number) c in
         ((λ h. check-good .0 (z .0 (sym e ∙ h))), (λ h. e ∙ z .1 (check-good .1 h)))
 
     pub check-numbers : among (0 ∷ slotNumbers) told ≡ true
     check-numbers =
         ap (λ (t : Told). among (0 ∷ slotNumbers) t) c
-        ∙ tells-orElse slotNumbers (listVerdict readVerdict rows names) (firstOf slot (rowsIn rows))
-        (list-tells readVerdict rows names slotNumbers refl (λ i. read-tells rows names i slotNumbers refl))
-        (tells-firstOf slotNumbers slot (rowsIn rows) slot-tells)
+        ∙ tells-answer slotNumbers (slotCheckOf rows names .row) (slotCheckOf rows names .verdict) 0
+        (tells-first slotNumbers (listJudged readVerdict rows names .verdict ∷ firstOf slot (rowsIn rows) ∷ [])
+        (list-tells readVerdict rows names slotNumbers refl (λ i. read-tells rows names i slotNumbers refl), (tells-firstOf slotNumbers slot (rowsIn rows) slot-tells, tt)))
 
     -- 3 is none of them
     pub check-never : among (3 ∷ []) told ≡ false

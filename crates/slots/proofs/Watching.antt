@@ -1,5 +1,5 @@
 -- What the pass keeps in mind after i rows says how the slots of the jumps before i stand.
-use mathlib.Core.Path.{_≡_, refl, sym, ap, _∙_, subst}
+use mathlib.Core.Path.{_≡_, refl, ap, _∙_, subst}
 use mathlib.Core.Bool.{Bool, true, false, cond, and-false}
 use mathlib.Core.List.{List, [], _∷_, _++_}
 use Prim.Native.Nat.{ℕ, _+_, _≤_, _<_}
@@ -8,12 +8,15 @@ use native.Mathlib.Omega.{arith}
 use borrow.Author.Count.{below-more}
 use Rattle.refusals.specs.declared.Refusal.{Refusal}
 use Rattle.refusals.specs.declared.Refusal.the-variants.{BrokenSlot}
+use Rattle.refusals.specs.declared.Answer.{Answer}
+use Rattle.refusals.specs.declared.Answer.the-variants as answer
 use Rattle.refusals.specs.declared.Verdict.{Verdict}
 use Rattle.refusals.specs.declared.Verdict.the-variants.{Good, Refused}
 use Rattle.coded.specs.declared.Coded.{Coded}
 use Rattle.coded.specs.declared.Coded.the-variants as coded
-use Rattle.refusals.specs.Order.{firstOf}
-use Rattle.refusals.proofs.Order.{AllPass, all-first, stop-first}
+use Rattle.refusals.specs.Numbers.{answerOf}
+use Rattle.refusals.specs.Order.{firstOf, passing, firstIn, foremost}
+use Rattle.refusals.proofs.Order.{AllPass, StopsAt, all-first, stop-first, stop-passing}
 use Rattle.coded.specs.Coded.{readVerdict}
 use Rattle.slots.specs.declared.Watch.{Watch}
 use Rattle.slots.specs.declared.Watch.the-variants.{Free, Both, Second, Broken}
@@ -115,11 +118,17 @@ module _ (it : ℕ → Coded) (n : ℕ) where
       seen-next (Second j) s = second-next (s .0) (s .1) (s .2) (fills (it i)) refl
       seen-next (Broken j) s = s
 
-  broken-first : {j : ℕ} → IsBroken j → Refused (BrokenSlot j) ≡ firstOf slot n
-  broken-first {j} s = sym (stop-first slot n (record { row = j; why = BrokenSlot j; before = s .there; fails = s .broken; earlier = s .before }))
+  -- 33, of the first such jump
+  abbrev pub slotted : Answer
+  slotted = answerOf (foremost (firstIn slot n ∷ [])) 0
 
-  seen-end : (w : Watch) → Seen n w → ending w ≡ firstOf slot n
-  seen-end Free s = sym (all-first slot n s)
+  broken-first : {j : ℕ} → IsBroken j → answer.Refused (BrokenSlot j) j ≡ slotted
+  broken-first {j} s =
+      let stop : StopsAt slot n = record { row = j; why = BrokenSlot j; before = s .there; fails = s .broken; earlier = s .before } in
+      rw (stop-first slot n stop, stop-passing slot n stop)
+
+  seen-end : (w : Watch) → Seen n w → ending w ≡ slotted
+  seen-end Free s = rw (all-first slot n s)
   seen-end (Both j) s = broken-first (is-broken s (ap filled (s .slots ∙ rest-none)))
   seen-end (Second j) s = broken-first (is-broken (s .2) (ap filled (s .2 .slots ∙ ap (λ (y : List Coded). s .0 ∷ y) rest-none)))
   seen-end (Broken j) s = broken-first s
@@ -144,8 +153,10 @@ module _ (it : ℕ → Coded) (n : ℕ) where
     pub watching-next : i < n → (row i ≡ Good) × (label (it i) ≡ false) → Watching (i + 1) (after w (it i) i)
     watching-next l e = goes l (e .0) (seen-next l (e .1) w (g .seen))
 
-    pub watching-stop : i < n → {r : Refusal} → it i ≡ coded.Refused r → firstOf row n ≡ Refused r
-    watching-stop l {r} e = stop-first row n (record { row = i; why = r; before = l; fails = rw e; earlier = g .good })
+    pub watching-stop : i < n → {r : Refusal} → it i ≡ coded.Refused r → (firstOf row n ≡ Refused r) × (passing row n ≡ i)
+    watching-stop l {r} e =
+        let stop : StopsAt row n = record { row = i; why = r; before = l; fails = rw e; earlier = g .good } in
+        (stop-first row n stop, stop-passing row n stop)
 
-    pub watching-end : n ≤ i → (firstOf row n ≡ Good) × (ending w ≡ firstOf slot n)
+    pub watching-end : n ≤ i → (firstOf row n ≡ Good) × (ending w ≡ slotted)
     watching-end h = let e : i ≡ n = omega (arith, g .within) in (all-first row n (λ k l. g .good k (omega arith)), seen-end w (subst (λ (k : ℕ). Seen k w) e (g .seen)))

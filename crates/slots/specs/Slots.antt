@@ -9,13 +9,14 @@ use Rattle.refusals.specs.declared.Refusal.the-variants.{BrokenSlot}
 use Rattle.refusals.specs.declared.Verdict.{Verdict}
 use Rattle.refusals.specs.declared.Verdict.the-variants.{Good}
 use Rattle.refusals.specs.declared.Told.{Told}
-use Rattle.refusals.specs.Numbers.{checked, reading}
-use Rattle.refusals.specs.Order.{when, orElse, firstOf}
+use Rattle.refusals.specs.declared.Judged.{Judged}
+use Rattle.refusals.specs.Numbers.{answerOf, answered, reading}
+use Rattle.refusals.specs.Order.{when, firstIn, foremost}
 use Rattle.items.specs.Kinds.{isBranch, hasSlots}
 use Rattle.coded.specs.declared.Coded.{Coded}
 use Rattle.coded.specs.Coded.{ofInstruction, readVerdict}
 use Rattle.places.specs.Items.{rowAt, rowsIn, isLabel}
-use Rattle.counts.specs.Counts.{listVerdict, Passes}
+use Rattle.counts.specs.Counts.{listJudged, Passes}
 
 -- "each delayed `JumpRelative` and each `CJump`"
 abbrev pub opens : Coded → Bool
@@ -49,17 +50,17 @@ abbrev pub slotVerdict : (ℕ → Coded) → ℕ → ℕ → Verdict
 slotVerdict it n i = when (opens (it i) && not (filled (unlabelled (drop (i + 1) (items it n))))) (BrokenSlot i)
 
 -- "Refusals: 1, then the first row refusal, then 33 for the first such jump."
-abbrev pub slotCheckOf : List ℕ → List ℕ → Verdict
-slotCheckOf rows names = orElse (listVerdict readVerdict rows names) (firstOf (λ i. slotVerdict (rowAt rows names) (rowsIn rows) i) (rowsIn rows))
+abbrev pub slotCheckOf : List ℕ → List ℕ → Judged
+slotCheckOf rows names = foremost (listJudged readVerdict rows names ∷ firstIn (slotVerdict (rowAt rows names) (rowsIn rows)) (rowsIn rows) ∷ [])
 
 -- none of them is met
 pub record Filled (rows names : List ℕ) : Type 0 where
   pub passes : Passes readVerdict rows names
   pub slots : (i : ℕ) → i < rowsIn rows → slotVerdict (rowAt rows names) (rowsIn rows) i ≡ Good
 
--- THE CONTRACT of the slot check: what is told, in document 01's numbers
+-- THE CONTRACT of the slot check: what is told, in document 01's numbers; "33 keeps its first detail and repeats it as the third"
 abbrev pub Checks : List ℕ → List ℕ → Told → Type 0
-Checks rows names told = told ≡ checked (slotCheckOf rows names)
+Checks rows names told = told ≡ answered (answerOf (slotCheckOf rows names) 0)
 
 -- the numbers it may tell, but 0
 abbrev pub slotNumbers : List ℕ

@@ -2,8 +2,8 @@
 use mathlib.Core.Bool.{cond}
 use Prim.Native.Nat.{ℕ}
 use Rattle.refusals.specs.declared.Refusal.the-variants.{BrokenSlot}
-use Rattle.refusals.specs.declared.Verdict.{Verdict}
-use Rattle.refusals.specs.declared.Verdict.the-variants.{Good, Refused}
+use Rattle.refusals.specs.declared.Answer.{Answer}
+use Rattle.refusals.specs.declared.Answer.the-variants.{Accepted, Refused}
 use Rattle.coded.specs.declared.Coded.{Coded}
 use Rattle.slots.specs.declared.Watch.{Watch}
 use Rattle.slots.specs.declared.Watch.the-variants.{Free, Both, Second, Broken}
@@ -17,8 +17,8 @@ after (Second jump) x i = cond (fills x) Free (Broken jump)
 after (Broken jump) x i = Broken jump
 
 -- no row more
-abbrev pub ending : Watch → Verdict
-ending Free = Good
-ending (Both jump) = Refused (BrokenSlot jump)
-ending (Second jump) = Refused (BrokenSlot jump)
-ending (Broken jump) = Refused (BrokenSlot jump)
+abbrev pub ending : Watch → Answer
+ending Free = Accepted 0
+ending (Both jump) = Refused (BrokenSlot jump) jump
+ending (Second jump) = Refused (BrokenSlot jump) jump
+ending (Broken jump) = Refused (BrokenSlot jump) jump

@@ -1,11 +1,11 @@
 // The slot check: what stands after each delayed jump, labels left out.
 ghost use mathlib.Core.Path.{_≡_};
-ghost use Rattle.refusals.specs.Numbers.{checked};
+ghost use Rattle.refusals.specs.Numbers.{answered};
 ghost use Rattle.slots.specs.Slots.{opens, fills, Checks};
 ghost use Rattle.slots.specs.Watch.{after, ending};
 use coded::Coded;
+use refusals::Answer;
 use refusals::Refusal;
-use refusals::Verdict;
 
 // What the items so far leave open: nothing, both slots or the second slot of the jump in a row, or the first jump whose
 // slots are broken.
@@ -64,39 +64,40 @@ impl Watch {
         }
     }
 
-    // What it comes to where no row follows: a slot that is missing is broken.
-    fn ending(self) -> Verdict
+    // What it comes to where no row follows: a slot that is missing is broken. The jump is the detail and the row.
+    fn ending(self) -> Answer
         ensures { λ r. ⌜ r ≡ ending self ⌝ }
     {
         match self {
-            Watch::Free => Verdict::Good,
-            Watch::Both(jump) => Verdict::Refused(Refusal::BrokenSlot(jump)),
-            Watch::Second(jump) => Verdict::Refused(Refusal::BrokenSlot(jump)),
-            Watch::Broken(jump) => Verdict::Refused(Refusal::BrokenSlot(jump)),
+            Watch::Free => Answer::Accepted(0),
+            Watch::Both(jump) => Answer::Refused(Refusal::BrokenSlot(jump), jump),
+            Watch::Second(jump) => Answer::Refused(Refusal::BrokenSlot(jump), jump),
+            Watch::Broken(jump) => Answer::Refused(Refusal::BrokenSlot(jump), jump),
         }
     }
 }
 
 // Whether the two items after each delayed jump, labels left out, may stand there; else the first row that is refused, or
 // the row of the first jump whose slots are broken.
-pub fn slot_check(rows: &[u32], names: &[u8]) -> Verdict
-    ensures { λ r. ⌜ Checks (now (rows .entry)) (now (names .entry)) (checked r) ⌝ }
+pub fn slot_check(rows: &[u32], names: &[u8]) -> Answer
+    ensures { λ r. ⌜ Checks (now (rows .entry)) (now (names .entry)) (answered r) ⌝ }
 {
     if !rows::well_formed(rows) {
-        return Verdict::Refused(Refusal::RowSlice);
+        return Answer::Refused(Refusal::RowSlice, 0);
     }
     let n = rows.len() / rows::ROW_WIDTH;
     let mut watch = Watch::Free;
     let mut i = 0;
     while i < n {
-        let row = coded::coded_at(rows, i, names.len());
-        match row {
-            Coded::Refused(r) => {
-                return Verdict::Refused(r);
+        let item = coded::coded_at(rows, i, names.len());
+        let row = i as u32;
+        match item {
+            Coded::Refused(why) => {
+                return Answer::Refused(why, row);
             }
             Coded::Label { .. } => {}
             _ => {
-                watch = watch.after(row, i as u32);
+                watch = watch.after(item, row);
             }
         }
         i += 1;

@@ -33,7 +33,7 @@ use Rattle.prefixes.proofs.Names.{row-fine}
 use Rattle.agrees.proofs.Keeps.{keep, good-zero}
 use Rattle.taking.specs.declared.Taking.{Taking}
 use Rattle.taking.specs.declared.Turned.{Turned}
-use Rattle.taking.specs.Taking.{formed, rowsTaken, startOf, goingOn, moreOf, wentOn, turnedOf, lateOf, RowTurn, LateTurn, Stepping, Onward, Ready, Turnt, tookVerdict, tookMem, Took}
+use Rattle.taking.specs.Taking.{formed, rowsTaken, startOf, goingOn, moreOf, wentOn, turnedOf, lateOf, RowTurn, LateTurn, Stepping, Onward, Ready, Turnt, tookVerdict, tookRow, tookMem, Took}
 use Rattle.taking.proofs.NextRow.{row-next, row-last}
 use Rattle.taking.proofs.Records.{turn-loops, turn-on, deeper-by-one, mem-eq, closed-none, closed-one, popped, good-less}
 
@@ -84,6 +84,7 @@ module _ (rs ns : List ℕ) (r : Rooms) (lent₀ : Lent) where
     pub why : Refusal
     pub stopped : t .verdict ≡ Refused why
     pub verdict : Refused why ≡ orElse (formed rs) (closeVerdict (tookVerdict rs ns r lent₀) (tookMem rs ns r lent₀))
+    pub row : t .row ≡ tookRow rs ns r lent₀
     pub rest : closed (memOf (t .state) lent) ≡ closed (tookMem rs ns r lent₀)
     pub good : GoodFor ns r (memOf (t .state) lent)
 
@@ -91,7 +92,7 @@ module _ (rs ns : List ℕ) (r : Rooms) (lent₀ : Lent) where
   Along t lent = Rowing t lent ⊎ Closing t lent
 
   -- where the fold came to
-  came-mem : {v : Verdict} {m : Mem} → Came C N m₀ (rowsTaken rs) v m → m ≡ tookMem rs ns r lent₀
+  came-mem : {v : Verdict} {e : ℕ} {m : Mem} → Came C N m₀ (rowsTaken rs) v e m → m ≡ tookMem rs ns r lent₀
   came-mem c = c .here ∙ mem-is (kernelOf rs ns) r m₀ (scanEnd C N m₀ (rowsTaken rs) 0)
 
   -- the verdict on all, from that of the rows
@@ -164,6 +165,7 @@ module _ (rs ns : List ℕ) (r : Rooms) (lent₀ : Lent) where
                   why = why;
                   stopped = ap (λ (b : Taking). b .verdict) on;
                   verdict = final (a .rows-formed) (Refused why) (memOf (x .state) lent′) (c .outcome) (came-mem c);
+                  row = ap (λ (b : Taking). b .row) on ∙ c .end;
                   rest = ap closed (came-mem c);
                   good = subst (λ (m : Mem). GoodFor ns r m) (sym u) (a .good);
                 }
@@ -176,6 +178,7 @@ module _ (rs ns : List ℕ) (r : Rooms) (lent₀ : Lent) where
         record Popped : Type 0 where
           is : memOf (x .state) lent′ ≡ memOf (level (t .state .depth - 1) (t .state)) (popped (t .state) lent)
           says : x .verdict ≡ Refused (lateOf (t .verdict))
+          stays : x .row ≡ t .row
 
         pops : LateTurn t (withLoops lent []) (s .turn) (withLoops lent′ []) → Popped
         pops o =
@@ -183,6 +186,7 @@ module _ (rs ns : List ℕ) (r : Rooms) (lent₀ : Lent) where
             record {
               is = ap₂ memOf (ap (λ (b : Taking). b .state) on) (ap₂ withLoops (o .same) (s .loops ∙ ap (λ (b : Turned). set (lent .loops) (b .slot) (b .rec)) (o .answer)));
               says = ap (λ (b : Taking). b .verdict) on;
+              stays = ap (λ (b : Taking). b .row) on;
             }
 
         onwards : Along t lent → Along x lent′
@@ -200,6 +204,7 @@ module _ (rs ns : List ℕ) (r : Rooms) (lent₀ : Lent) where
                   why = UnclosedLoop;
                   stopped = d .says ∙ ap (λ (v : Verdict). Refused (lateOf v)) (a .unstopped);
                   verdict = ap (λ (b : Bool). when b UnclosedLoop) (sym (lt-ltb 0 (t .state .depth) some)) ∙ final (a .rows-formed) Good M (c .outcome) (came-mem c);
+                  row = d .stays ∙ c .end;
                   rest = ap closed (d .is) ∙ closed-one (t .state) lent some ∙ ap closed (came-mem c);
                   good = subst (λ (m : Mem). GoodFor ns r m) (sym (d .is)) (good-less ns r (t .state) lent some (a .good));
                 })
@@ -212,6 +217,7 @@ module _ (rs ns : List ℕ) (r : Rooms) (lent₀ : Lent) where
                   why = a .why;
                   stopped = d .says ∙ ap (λ (v : Verdict). Refused (lateOf v)) (a .stopped);
                   verdict = a .verdict;
+                  row = d .stays ∙ a .row;
                   rest = ap closed (d .is) ∙ closed-one (t .state) lent some ∙ a .rest;
                   good = subst (λ (m : Mem). GoodFor ns r m) (sym (d .is)) (good-less ns r (t .state) lent some (a .good));
                 })
@@ -255,10 +261,11 @@ module _ (rs ns : List ℕ) (r : Rooms) (lent₀ : Lent) where
             verdict =
                 a .unstopped ∙ ap (λ (b : Bool). when b UnclosedLoop) (sym (le-ltb 0 (t .state .depth) (let w : t .state .depth ≤ 0 = omega (arith, none-open) in w)))
                 ∙ final (a .rows-formed) Good M (c .outcome) (came-mem c);
+            row = c .end;
             mem = sym (closed-none (t .state) lent none-open) ∙ ap closed (came-mem c);
             good = a .good;
           }
-      ended (inr a) = record { verdict = a .stopped ∙ a .verdict; mem = sym (closed-none (t .state) lent none-open) ∙ a .rest; good = a .good }
+      ended (inr a) = record { verdict = a .stopped ∙ a .verdict; row = a .row; mem = sym (closed-none (t .state) lent none-open) ∙ a .rest; good = a .good }
 
   begun : RoomingIn r lent₀ → Along (startOf rs) lent₀
   begun rooms = go (wellFormed (length rs)) refl
@@ -267,12 +274,14 @@ module _ (rs ns : List ℕ) (r : Rooms) (lent₀ : Lent) where
       go true w =
           inl (record { rows-formed = w; unstopped = rw w; going = going-start C N m₀ (rowsTaken rs); good = good-zero ns r lent₀ rooms })
       go false w =
+          let none = ap (λ (b : Bool). scanEnd C N m₀ (cond b (rowsIn rs) 0) 0) (sym w) in
           inr
           (record {
             why = RowSlice;
             stopped = rw w;
             verdict = rw w;
-            rest = ap closed (ap (λ (b : Bool). memAt it m₀ (scanEnd C N m₀ (cond b (rowsIn rs) 0) 0)) (sym w));
+            row = none;
+            rest = ap (λ (i : ℕ). closed (memAt it m₀ i)) none;
             good = good-zero ns r lent₀ rooms;
           })
 

@@ -20,7 +20,7 @@ use Rattle.machine.specs.declared.State.{State}
 use Rattle.machine.specs.declared.Step.{Step}
 use Rattle.machine.specs.declared.Step.the-variants.{On, Opened, Closed, Stop}
 use Rattle.machine.specs.Machine.{Mem, memOf, topOf, Fine, GoodFor, Stepped}
-use Rattle.machine.specs.Fold.{zeroState, rowsVerdict, rowsMem}
+use Rattle.machine.specs.Fold.{zeroState, rowsVerdict, rowsEnd, rowsMem}
 use Rattle.machine.specs.Finish.{level, closeVerdict, closed}
 use Rattle.taking.specs.declared.Taking.{Taking}
 use Rattle.taking.specs.declared.Turned.{Turned}
@@ -91,7 +91,7 @@ pub record Turnt (k : Kernel) (r : Rooms) (t : Taking) (lent : Lent) (x : Taking
   pub taking : x ≡ turn .taking
   pub loops : left .loops ≡ set (lent .loops) (turn .slot) (turn .rec)
 
--- ---- all turns: the verdict on the rows that are taken in, and the memory with every loop closed
+-- ---- all turns: the verdict on the rows that are taken in, how many pass, and the memory with every loop closed
 abbrev pub takenOf : List ℕ → List ℕ → Kernel
 takenOf rs ns = kernel ns (rowAt rs ns) (rowsTaken rs)
 
@@ -99,10 +99,14 @@ module _ (rs ns : List ℕ) (r : Rooms) (lent : Lent) where
   abbrev pub tookVerdict : Verdict
   tookVerdict = rowsVerdict (takenOf rs ns) r (memOf zeroState lent)
 
+  abbrev pub tookRow : ℕ
+  tookRow = rowsEnd (takenOf rs ns) r (memOf zeroState lent)
+
   abbrev pub tookMem : Mem
   tookMem = rowsMem (takenOf rs ns) r (memOf zeroState lent)
 
 pub record Took (rs ns : List ℕ) (r : Rooms) (lent : Lent) (x : Taking) (left : Lent) : Type 0 where
   pub verdict : x .verdict ≡ orElse (formed rs) (closeVerdict (tookVerdict rs ns r lent) (tookMem rs ns r lent))
+  pub row : x .row ≡ tookRow rs ns r lent
   pub mem : memOf (x .state) left ≡ closed (tookMem rs ns r lent)
   pub good : GoodFor ns r (memOf (x .state) left)

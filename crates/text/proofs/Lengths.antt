@@ -2,7 +2,7 @@
 use mathlib.Core.Path.{_≡_, refl, sym, _∙_}
 use mathlib.Core.Bool.{Bool, true, false}
 use mathlib.Core.List.{List, [], _∷_, _++_}
-use Prim.Native.Nat.{ℕ, min, _+_, _*_, _≤_}
+use Prim.Native.Nat.{ℕ, min, _+_, _≤_}
 use native.Mathlib.Omega.{arith}
 use lib.ListN.{length, take, length-append}
 use lib.Seq.{take-all}
@@ -22,12 +22,14 @@ pub refused-fits : (t : Told) → length (refusedText t) ≤ 15384
 refused-fits t =
     omega (
       arith,
-      length-append (refused ++ decimal (t .number) ++ detail (t .first) ++ detail (t .second)) (10 ∷ []),
+      length-append (refused ++ decimal (t .number) ++ detail (t .first) ++ detail (t .second) ++ detail (t .third)) (10 ∷ []),
+      length-append (refused ++ decimal (t .number) ++ detail (t .first) ++ detail (t .second)) (detail (t .third)),
       length-append (refused ++ decimal (t .number) ++ detail (t .first)) (detail (t .second)),
       length-append (refused ++ decimal (t .number)) (detail (t .first)),
       decimal-short (t .number),
       detail-short (t .first),
       detail-short (t .second),
+      detail-short (t .third),
     )
 
 pub unread-fits : (line : ℕ) → length (unreadText line) ≤ 15384

@@ -49,9 +49,9 @@ unread = 117 ∷ 110 ∷ 114 ∷ 101 ∷ 97 ∷ 100 ∷ 9 ∷ []
 abbrev pub okText : ℕ → List ℕ → List ℕ
 okText count parcels = ok ++ decimal count ++ 10 ∷ [] ++ each parcelLine parcels
 
--- "`refused`, tab, number, tab, first detail, tab, second"
+-- "`refused`, tab, number, tab, first detail, tab, second"; "`refused` lines get a last field"
 abbrev pub refusedText : Told → List ℕ
-refusedText t = refused ++ decimal (t .number) ++ detail (t .first) ++ detail (t .second) ++ 10 ∷ []
+refusedText t = refused ++ decimal (t .number) ++ detail (t .first) ++ detail (t .second) ++ detail (t .third) ++ 10 ∷ []
 
 -- an answer in numbers, with what stands in the parcels' room
 abbrev pub answerText : Told → List ℕ → List ℕ

@@ -130,13 +130,14 @@ fn put_detail(out: &mut [u8], at: usize, z: i64) -> usize
 
 // The text of a refusal; the place after it.
 pub fn put_refused(out: &mut [u8], at: usize, told: Told) -> usize
-    requires { ⌜ at + 73 ≤ length (now out) ⌝ }
+    requires { ⌜ at + 95 ≤ length (now out) ⌝ }
     ensures { λ r. ⌜ Puts (now (out .entry)) at (refusedText told) (now (out .exit)) r ⌝ }
 {
     let number = put_head(out, at, b"refused\t", told.number as u64);
     let first = put_detail(out, number, told.first);
     let second = put_detail(out, first, told.second);
-    put(out, second, 10)
+    let third = put_detail(out, second, told.third);
+    put(out, third, 10)
 }
 
 // The text of a refusal at the front, and its length.

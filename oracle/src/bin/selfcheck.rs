@@ -1,15 +1,18 @@
-//! The second reading of document 01 against the Rust, on lists that both can be asked about.
+//! The second reading of documents 01 and 02 against the Rust, on lists that both can be asked about.
+//! The row of a refusal is held to what the Rust says of fronts of the list.
 
 use std::collections::BTreeMap;
 use std::process::ExitCode;
 
 use qc_asm::VisaProgram;
 use visa_oracle::cases::{self, Case};
+use visa_oracle::fronts;
 use visa_oracle::huge;
 use visa_oracle::judge;
+use visa_oracle::list::List;
 use visa_oracle::lists::some_case;
 use visa_oracle::refusal::Refusal;
-use visa_oracle::second::{self, Limits, Told};
+use visa_oracle::second::{self, Limits, Refused, Told};
 
 const USAGE: &str = "usage: selfcheck [SEED [COUNT]]";
 const PROGRESS: u64 = 100_000;
@@ -34,11 +37,13 @@ fn main() -> ExitCode {
     }
 }
 
-/// How often each refusal was met, and how many of the lists the Rust could be asked about.
+/// How often each refusal was met, how many of the lists the Rust could be asked about, and how many
+/// were refused behind the first row.
 #[derive(Default)]
 struct Tally {
     lists: u64,
     asked: u64,
+    rows: u64,
     met: BTreeMap<u32, u64>,
 }
 
@@ -59,8 +64,8 @@ fn run(seed: u64, count: u64) -> Result<(), String> {
         println!("answer {number}: {times} lists");
     }
     println!(
-        "selfcheck: {} lists, {} of them put before the Rust, no difference",
-        tally.lists, tally.asked
+        "selfcheck: {} lists, {} of them put before the Rust, {} refused behind row 0, no difference",
+        tally.lists, tally.asked, tally.rows
     );
     Ok(())
 }
@@ -78,13 +83,31 @@ fn check(case: &Case, tally: &mut Tally) -> Result<(), String> {
         counts(case, &program)?;
         to_bytes(&told, parcels, &program)?;
     }
-    Ok(())
+    rows(case, &told, tally)
+}
+
+/// The rows of the build's refusal and of the parcel count's.
+fn rows(case: &Case, told: &Told, tally: &mut Tally) -> Result<(), String> {
+    if let Some(why) = judge::row_difference(&case.list, told) {
+        return Err(format!("{told:?}, and {why}"));
+    }
+    tally.rows += (told.third > 0) as u64;
+    let List { numbers, names } = &case.list;
+    let counted = second::parcel_count(numbers, names, &Limits::default()).err();
+    let Some(Refused { row: Some(row), .. }) = counted.filter(|_| case.list.program().is_some())
+    else {
+        return Ok(());
+    };
+    match fronts::counted(&case.list) {
+        Some(expected) if expected == row => Ok(()),
+        expected => Err(format!("the parcel count refuses row {row}, the Rust {expected:?}")),
+    }
 }
 
 /// Both counts against the Rust's.
 fn counts(case: &Case, program: &VisaProgram) -> Result<(), String> {
     let (numbers, names, limits) = (&case.list.numbers, &case.list.names, Limits::default());
-    let parcels = second::parcel_count(numbers, names, &limits);
+    let parcels = second::parcel_count(numbers, names, &limits).map_err(|refused| refused.refusal);
     let rust = program.parcel_count().map_err(|error| Refusal::from(&error));
     if parcels != rust {
         return Err(format!("parcel count {parcels:?}, and the Rust's is {rust:?}"));

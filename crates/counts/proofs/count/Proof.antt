@@ -28,6 +28,9 @@ loop-holds c = record { few = rows-few _ (sym (c .before .well-formed .ensures) 
 coded-at-requires : tie.Need-coded-at-requires Inv-loop μ-loop
 coded-at-requires c κs = search needs
 
+cast-count-row : tie.Need-cast-count-row Inv-loop μ-loop
+cast-count-row c = search needs
+
 count-row-requires : tie.Need-count-row-requires Inv-loop μ-loop
 count-row-requires c κs = search needs
 
@@ -41,7 +44,11 @@ enum-known-one-2 : tie.Need-enum-known-one-2 Inv-loop μ-loop
 enum-known-one-2 c = search needs
 
 returns-2 : tie.Need-returns-2 Inv-loop μ-loop
-returns-2 c = let counted = rw (c .before .before .before .before .coded-at .ensures) at (c .before .before .before .count-row .ensures) in rw (← c .before .before .before .before .before .before .before .before .well-formed .ensures, not-false (c .before .before .before .before .before .before .before .before .well-formed .result) (c .before .before .before .before .before .before .before .if1 .left), tally-stop (c .before .before .before .before .before .before .loop .inv) (c .before .before .before .before .before .loop-test .taken) {r = c .before .one2 .given .0 .0} (sym (c .before .one2 .given .1) ∙ counted))
+returns-2 c =
+    let counted = rw (c .before .before .before .before .coded-at .ensures) at (c .before .before .before .count-row .ensures) in
+    let one = c .before .one2 .given in
+    let e = tally-stop (c .before .before .before .before .before .before .loop .inv) (c .before .before .before .before .before .loop-test .taken) {r = one .0 .0} {k = one .0 .1 .0} (sym (one .1) ∙ counted) in
+    rw (← c .before .before .before .before .before .before .before .before .well-formed .ensures, not-false (c .before .before .before .before .before .before .before .before .well-formed .result) (c .before .before .before .before .before .before .before .if1 .left), e .0, e .1)
 
 add-i : tie.Need-add-i Inv-loop μ-loop
 add-i c = search needs
@@ -65,6 +72,7 @@ count-spec =
     returns
     loop-holds
     coded-at-requires
+    cast-count-row
     count-row-requires
     enum-known-one
     add-count

@@ -11,14 +11,14 @@ cut-form-requires c κs = search needs
 cast-count : tie.Need-cast-count
 cast-count c = let few = form-few (c .before .before .args .f) in rw (c .before .cut-form .ensures) (record { fits = omega (arith, few) })
 
-answer-of-requires : tie.Need-answer-of-requires
-answer-of-requires c κs = search needs
+answer-requires : tie.Need-answer-requires
+answer-requires c κs = search needs
 
 answered-requires : tie.Need-answered-requires
 answered-requires c κs = search needs
 
 returns : tie.Need-returns
-returns c = rw (c .answered .ensures, c .before .answer-of .ensures, c .before .before .before .before .cut-form .ensures)
+returns c = rw (c .answered .ensures, c .before .answer .ensures, c .before .before .before .before .cut-form .ensures)
 
 pub form-answer-spec : {M : Type 1} → statement M
-form-answer-spec = tie.close (tie.spec cut-form-requires cast-count answer-of-requires answered-requires returns)
+form-answer-spec = tie.close (tie.spec cut-form-requires cast-count answer-requires answered-requires returns)

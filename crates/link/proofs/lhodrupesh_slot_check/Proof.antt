@@ -7,11 +7,11 @@ use Rattle.link.proofs.lhodrupesh_slot_check.Tie as tie
 slot-check-requires : tie.Need-slot-check-requires
 slot-check-requires c κs = search needs
 
-checked-requires : tie.Need-checked-requires
-checked-requires c κs = search needs
+answered-requires : tie.Need-answered-requires
+answered-requires c κs = search needs
 
 returns : tie.Need-returns
-returns c = c .checked .ensures ∙ c .before .slot-check .ensures
+returns c = c .answered .ensures ∙ c .before .slot-check .ensures
 
 pub lhodrupesh-slot-check-spec : {M : Type 1} → statement M
-lhodrupesh-slot-check-spec = tie.close (tie.spec slot-check-requires checked-requires returns)
+lhodrupesh-slot-check-spec = tie.close (tie.spec slot-check-requires answered-requires returns)

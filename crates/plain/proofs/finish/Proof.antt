@@ -1,6 +1,6 @@
-use native.Mathlib.Omega.{arith}
+-- By the verdicts of the two walks.
+use mathlib.Core.Path.{refl}
 use Rattle.plain.proofs.Finishing.{first-refuses, second-refuses, accepts}
-use mathlib.Core.Path.{refl, sym, _∙_}
 use borrow.Author.Needs.{needs}
 use Rattle.plain.proofs.finish.Statement.{statement}
 use Rattle.plain.proofs.finish.Tie as tie
@@ -9,7 +9,7 @@ enum-known-verdict : tie.Need-enum-known-verdict
 enum-known-verdict c = search needs
 
 refused-requires : tie.Need-refused-requires
-refused-requires c κs = c .before .before .before .before .before .before .before .before .before .before .before .before .pre .used
+refused-requires c κs = search needs
 
 same-length : tie.Need-same-length
 same-length c = search needs
@@ -26,20 +26,20 @@ returns c = first-refuses (c .before .before .before .before .before .before .be
 enum-told : tie.Need-enum-told
 enum-told c = search needs
 
-write-rows-requires : tie.Need-write-rows-requires
-write-rows-requires c κs = c .before .before .before .before .before .before .before .before .before .before .pre .writable (c .before .before .enum-told .given .1)
+write-requires : tie.Need-write-requires
+write-requires c κs = c .before .before .before .before .before .before .before .before .before .before .pre .writable (c .before .before .enum-told .given .1)
 
-enum-known-aims : tie.Need-enum-known-aims
-enum-known-aims c = search needs
+enum-known-verdict-2 : tie.Need-enum-known-verdict-2
+enum-known-verdict-2 c = search needs
 
 refused-requires-2 : tie.Need-refused-requires-2
-refused-requires-2 c κs = let u = c .before .before .before .before .before .before .before .before .before .before .before .before .before .before .before .before .before .before .before .pre .used in let e = c .before .before .before .before .before .before .before .parcels2 .given in omega arith
+refused-requires-2 c κs = search needs
 
 enum-told-2 : tie.Need-enum-told-2
 enum-told-2 c = search needs
 
-cast-t29 : tie.Need-cast-t29
-cast-t29 c = search needs
+cast-t30 : tie.Need-cast-t30
+cast-t30 c = search needs
 
 same-length-4 : tie.Need-same-length-4
 same-length-4 c = search needs
@@ -51,7 +51,7 @@ same-length-6 : tie.Need-same-length-6
 same-length-6 c = search needs
 
 returns-2 : tie.Need-returns-2
-returns-2 c = second-refuses (c .before .before .before .before .before .before .before .before .before .before .before .before .before .before .before .before .before .before .enum-told .given .1) (c .before .before .before .before .before .before .before .before .before .before .before .before .before .before .before .write-rows .ensures) (c .before .before .before .before .before .before .before .before .before .before .before .aims .given .1) (c .before .before .before .before .before .before .refused2 .ensures)
+returns-2 c = second-refuses (c .before .before .before .before .before .before .before .before .before .before .before .before .before .before .before .before .before .before .enum-told .given .1) (c .before .before .before .before .before .before .before .before .before .before .before .before .before .before .before .write .result) (c .before .before .before .before .before .before .before .before .before .before .before .before .before .before .before .write .ensures) (c .before .before .before .before .before .before .before .before .before .before .before .verdict2 .given .1) (c .before .before .before .before .before .before .refused2 .ensures)
 
 same-length-7 : tie.Need-same-length-7
 same-length-7 c = search needs
@@ -60,7 +60,7 @@ same-length-8 : tie.Need-same-length-8
 same-length-8 c = search needs
 
 returns-3 : tie.Need-returns-3
-returns-3 c = accepts (c .before .before .before .before .before .before .before .before .enum-told .given .1) (c .before .before .before .before .before .write-rows .ensures) (c .before .enum-told2 .given .1) refl refl
+returns-3 c = accepts (c .before .before .before .before .before .before .before .before .enum-told .given .1) (c .before .before .before .before .before .write .result) (c .before .before .before .before .before .write .ensures) (c .before .enum-told2 .given .1) refl refl
 
 pub finish-spec : {M : Type 1} → statement M
 finish-spec =
@@ -73,11 +73,11 @@ finish-spec =
     same-length-3
     returns
     enum-told
-    write-rows-requires
-    enum-known-aims
+    write-requires
+    enum-known-verdict-2
     refused-requires-2
     enum-told-2
-    cast-t29
+    cast-t30
     same-length-4
     same-length-5
     same-length-6

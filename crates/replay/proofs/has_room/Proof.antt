@@ -11,7 +11,7 @@ returns : tie.Need-returns
 returns c = λ e. absurd (false≢true e)
 
 returns-2 : tie.Need-returns-2
-returns-2 c = λ e. let h = leb-true (c .before .args .at) (length (c .before .args .out .now) - 73) e in omega arith
+returns-2 c = λ e. let h = leb-true (c .before .args .at) (length (c .before .args .out .now) - 95) e in omega arith
 
 pub has-room-spec : {M : Type 1} → statement M
 has-room-spec = tie.close (tie.spec returns returns-2)

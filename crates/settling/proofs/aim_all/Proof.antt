@@ -47,8 +47,8 @@ mul-row-2 c = search needs
 shared-slice-read-row : tie.Need-shared-slice-read-row Inv-loop μ-loop
 shared-slice-read-row c = search needs
 
-cast-row : tie.Need-cast-row Inv-loop μ-loop
-cast-row c = omega (arith, c .shared-slice-known6 .given (2 * c .before .before .before .loop .k + 1))
+cast-coded-at : tie.Need-cast-coded-at Inv-loop μ-loop
+cast-coded-at c = omega (arith, c .shared-slice-known6 .given (2 * c .before .before .before .loop .k + 1))
 
 coded-at-requires : tie.Need-coded-at-requires Inv-loop μ-loop
 coded-at-requires c κs = omega (arith, c .before .before .before .before .before .before .before .before .before .pre .rows-in (c .before .before .before .loop .k) (c .before .before .loop-test .taken), c .before .before .before .before .before .before .before .before .before .pre .rows-few)
@@ -63,7 +63,7 @@ same-length : tie.Need-same-length Inv-loop μ-loop
 same-length c = search needs
 
 returns : tie.Need-returns Inv-loop μ-loop
-returns c = let s = read-on (c .before .before .before .before .before .before .before .coded-at .ensures) (c .before .before .before .before .before .aim-coded .ensures) in going-stop _ _ _ (c .before .before .before .before .before .before .before .before .before .before .before .loop .inv .0) (c .before .before .before .before .before .before .before .before .before .before .loop-test .taken) (sym (s .answer) ∙ c .before .one .given .1) (rw (c .before .one .given .1) at (s .parcels))
+returns c = let s = read-on (c .before .before .before .before .before .before .before .coded-at .ensures) (c .before .before .before .before .before .aim-coded .ensures) in record { end = _; came = going-stop _ _ _ (c .before .before .before .before .before .before .before .before .before .before .before .loop .inv .0) (c .before .before .before .before .before .before .before .before .before .before .loop-test .taken) (sym (s .answer) ∙ c .before .one .given .1) (rw (c .before .one .given .1) at (s .parcels)); row = refl }
 
 enum-told : tie.Need-enum-told Inv-loop μ-loop
 enum-told c = search needs
@@ -81,7 +81,7 @@ same-length-2 : tie.Need-same-length-2 Inv-loop μ-loop
 same-length-2 c = search needs
 
 returns-2 : tie.Need-returns-2 Inv-loop μ-loop
-returns-2 c = going-end _ _ _ (c .before .loop .inv .0) (c .loop-test .left)
+returns-2 c = record { end = _; came = going-end _ _ _ (c .before .loop .inv .0) (c .loop-test .left); row = refl }
 
 pub aim-all-spec : {M : Type 1} → statement M
 aim-all-spec =
@@ -98,7 +98,7 @@ aim-all-spec =
     add-row
     mul-row-2
     shared-slice-read-row
-    cast-row
+    cast-coded-at
     coded-at-requires
     aim-coded-requires
     enum-known-one

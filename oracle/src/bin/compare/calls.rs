@@ -14,6 +14,7 @@ pub const CALLS: &[(&str, Check)] = &[
     ("slot check", slots::difference),
     ("bytes", bytes::difference),
     ("the Rust crate", same::difference),
+    ("the Rust crate's items", items::difference),
 ];
 
 fn unlike<T: PartialEq + std::fmt::Debug>(expected: T, found: T) -> Option<String> {
@@ -196,5 +197,33 @@ mod same {
             && labels <= limits.labels
             && jumps <= limits.jumps
             && loops <= limits.loops
+    }
+}
+
+mod items {
+    use visa_oracle::cases::{self, Case, Lengths};
+    use visa_oracle::linked::items;
+    use visa_oracle::row::WIDTH;
+    use visa_oracle::second::{self, Limits, Told};
+
+    use super::unlike;
+    use crate::lists::Tally;
+
+    /// The items that the Rust crate's errors are about, on whole rows that say items. It lends a
+    /// build as much as the limits allow, and counts rows past their limit too.
+    pub fn difference(case: &Case, _: &Tally) -> Option<String> {
+        let list = &case.list;
+        if list.numbers.len() % WIDTH != 0 || !matches!(list.program(), Some(Ok(_))) {
+            return None;
+        }
+        let lengths = Lengths::for_list(list, 0);
+        let (built, _) = cases::second(&Case { list: list.clone(), lengths });
+        let limits = Limits { rows: usize::MAX, ..Limits::default() };
+        let counted = Told::of(second::parcel_count(&list.numbers, &list.names, &limits));
+        unlike([built, counted].map(item), items(list))
+    }
+
+    fn item(told: Told) -> Option<usize> {
+        (!matches!(told.number, 0 | 1)).then_some(told.third as usize)
     }
 }

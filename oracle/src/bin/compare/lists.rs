@@ -5,7 +5,7 @@ use std::sync::atomic::AtomicU64;
 
 use visa_oracle::cases::{Case, Lengths};
 use visa_oracle::huge;
-use visa_oracle::list::{self, List};
+use visa_oracle::list;
 use visa_oracle::lists::some_case;
 use visa_oracle::sample_lists;
 use visa_oracle::search::Search;
@@ -70,7 +70,7 @@ fn chosen(short: bool) -> Vec<Made> {
     let sample = list::read(&sample_lists::sample()).expect("the sample's lines are rows");
     let mut made: Vec<Made> = Vec::new();
     for (number, list) in sample.into_iter().enumerate() {
-        for lengths in around(&list) {
+        for lengths in Lengths::around(&list) {
             let list = list.clone();
             let name = format!("list {number} of the sample");
             made.push((name, Box::new(move || Case { list: list.clone(), lengths })));
@@ -80,19 +80,6 @@ fn chosen(short: bool) -> Vec<Made> {
         made.extend(huge::CASES.map(|(name, make)| (name.to_string(), Box::new(make) as _)));
     }
     made
-}
-
-/// Exactly what a list takes, more of each, and around it for one buffer at a time.
-fn around(list: &List) -> Vec<Lengths> {
-    const NEAR: usize = 4;
-    let exact = Lengths::for_list(list, 0);
-    let near = |need: usize| need.saturating_sub(NEAR)..=need + NEAR;
-    let mut all = vec![exact, Lengths::for_list(list, 7)];
-    all.extend(near(exact.parcels).map(|parcels| Lengths { parcels, ..exact }));
-    all.extend(near(exact.labels).map(|labels| Lengths { labels, ..exact }));
-    all.extend(near(exact.jumps).map(|jumps| Lengths { jumps, ..exact }));
-    all.extend(near(exact.loops).map(|loops| Lengths { loops, ..exact }));
-    all
 }
 
 fn differs(case: &Case, tally: &Tally) -> bool {

@@ -128,8 +128,10 @@ fn print_case(what: &str, slice: &[u32]) {
 }
 
 fn told(one: &One) -> String {
-    let One { number, count, first, second, places } = one;
-    format!("number {number}, count {count}, details {first} and {second}, places {places:04x?}")
+    let One { number, count, first, second, third, places } = one;
+    format!(
+        "number {number}, count {count}, details {first}, {second} and {third}, places {places:04x?}"
+    )
 }
 
 /// The slice with each number as small as the difference allows.

@@ -22,7 +22,8 @@ returns-2 : tie.Need-returns-2
 returns-2 c =
     let told = c .before .told .result in
     let first : toZ w64 (ofZ w64 (told .first)) ≡ told .first = search needs in
-    rw (c .before .before .before .self2 .given .1, ← c .before .told .ensures, first)
+    let third : toZ w64 (ofZ w64 (told .third)) ≡ told .third = search needs in
+    rw (c .before .before .before .self2 .given .1, ← c .before .told .ensures, first, third)
 
 pub told-spec : {M : Type 1} → statement M
 told-spec = tie.close (tie.spec enum-known-self enum-known-self-2 told-requires returns returns-2)

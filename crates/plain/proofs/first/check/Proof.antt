@@ -1,3 +1,4 @@
+-- By what the item is.
 use borrow.Author.Needs.{needs}
 use Rattle.plain.proofs.first.check.Statement.{statement}
 use Rattle.plain.proofs.first.check.Tie as tie

@@ -1,3 +1,4 @@
+-- By what the item is.
 use Rattle.plain.specs.Plain.{tables}
 use Rattle.plain.proofs.Entries.{no-entry}
 use Rattle.places.specs.Items.{isLabel, isJump}

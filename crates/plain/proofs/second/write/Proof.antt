@@ -1,102 +1,92 @@
-use Rattle.plain.proofs.Writing.{place-in, place-few, instruction-fits, instruction-wrote, jump-fits, jump-wrote, loop-fits, loop-wrote, label-wrote, end-wrote, none-refused}
-use Rattle.tables.proofs.Lookups.{entries-in}
-use Rattle.prefixes.proofs.Names.{row-fine}
-use Rattle.prefixes.proofs.Totals.{total-up}
-use Rattle.prefixes.proofs.Passing.{fits}
-use Rattle.places.specs.Items.{Kernel, kernelOf, place, size, about}
-use denote.Ref.{now}
-use native.Mathlib.Omega.{arith}
-use mathlib.Core.Path.{sym, ap, _∙_}
-use Rattle.coded.specs.declared.Coded.{Coded}
+-- Before row i the rows before it are written, and `at` is its place.
 use borrow.Author.Needs.{needs}
+use Prim.Native.Nat.{_-_}
+use mathlib.Core.Path.{_≡_, refl, sym, _∙_}
+use native.Mathlib.Omega.{arith}
+use lib.ListN.{length}
+use Rattle.places.specs.Items.{kernelOf, rowAt, rowsIn, place}
+use Rattle.refusals.specs.Scan.{Going, going-start, going-next, going-stop, going-end}
+use Rattle.plain.specs.Once.{written}
+use Rattle.plain.specs.Plain.{aims}
+use Rattle.ends.proofs.Ending.{place-next}
+use Rattle.plain.proofs.Writing.{place-few}
+use denote.Ref.{now}
 use Rattle.plain.proofs.second.write.Statement.{statement}
 use Rattle.plain.proofs.second.write.Tie as tie
 
-enum-known-item : tie.Need-enum-known-item
-enum-known-item c = search needs
+abbrev Inv-loop : tie.InvT-loop
+Inv-loop rows names labels n parcels₀ at₀ i₀ parcels at i = Going (aims (kernelOf rows names)) (written (kernelOf rows names)) parcels₀ (rowsIn rows) i parcels × (at ≡ place (rowAt rows names) i) × (length parcels ≡ length parcels₀)
 
-put-requires : tie.Need-put-requires
-put-requires c κs = rw (c .before .before .before .before .before .before .before .before .pre .at-is) (instruction-fits _ (c .before .before .before .before .before .before .before .before .pre .writable) (c .before .before .before .before .before .before .before .before .pre .before) (sym (c .before .before .before .before .before .before .before .before .pre .is) ∙ c .before .before .item .given .1))
+abbrev μ-loop : tie.MeasureT-loop
+μ-loop rows names labels n parcels₀ at₀ i₀ parcels at i = rowsIn rows - i
 
-enum-known-item-2 : tie.Need-enum-known-item-2
-enum-known-item-2 c = search needs
+loop-holds : tie.Need-loop-holds Inv-loop μ-loop
+loop-holds c = (going-start _ _ _ _, refl, refl)
 
-jump-word-requires : tie.Need-jump-word-requires
-jump-word-requires c κs = let k = kernelOf (now (c .before .before .before .before .before .before .before .before .args .rows)) (now (c .before .before .before .before .before .before .before .before .args .names)) in let w = c .before .before .before .before .before .before .before .before .pre .writable in let f = rw (c .before .before .item2 .given .1) at (rw (← c .before .before .before .before .before .before .before .before .pre .is) at (row-fine (now (c .before .before .before .before .before .before .before .before .args .rows)) (now (c .before .before .before .before .before .before .before .before .args .names)) (c .before .before .before .before .before .before .before .before .args .i))) in let u = place-few k w (c .before .before .before .before .before .before .before .before .pre .before) in (w .labels-in, f, rw (w .count-is) (entries-in k (k .n) _ (w .held) (row-fine (now (c .before .before .before .before .before .before .before .before .args .rows)) (now (c .before .before .before .before .before .before .before .before .args .names)))), omega (arith, c .before .before .before .before .before .before .before .before .pre .at-is))
+coded-at-requires : tie.Need-coded-at-requires Inv-loop μ-loop
+coded-at-requires c κs = omega (arith, c .before .before .before .before .before .before .pre .few)
 
-put-requires-2 : tie.Need-put-requires-2
-put-requires-2 c κs = rw (c .jump-word .ensures, c .before .before .before .before .before .before .before .before .before .pre .at-is) (jump-fits _ (c .before .before .before .before .before .before .before .before .before .pre .writable) (c .before .before .before .before .before .before .before .before .before .pre .before) (sym (c .before .before .before .before .before .before .before .before .before .pre .is) ∙ c .before .before .before .item2 .given .1))
+write-item-requires : tie.Need-write-item-requires Inv-loop μ-loop
+write-item-requires c κs = record { writable = rw (c .before .before .before .loop .inv .2) (c .before .before .before .before .before .before .before .before .pre); before = c .before .before .loop-test .taken; at-is = c .before .before .before .loop .inv .1; is = c .before .coded-at .ensures }
 
-enum-told : tie.Need-enum-told
+enum-told : tie.Need-enum-told Inv-loop μ-loop
 enum-told c = search needs
 
-end-of-requires : tie.Need-end-of-requires
-end-of-requires c κs = let k = kernelOf (now (c .before .before .before .before .before .before .args .rows)) (now (c .before .before .before .before .before .before .args .names)) in let w = c .before .before .before .before .before .before .pre .writable in record { few = w .few; before = c .before .before .before .before .before .before .pre .before; opens = ap (λ (x : Coded). about x .opens) (sym (c .before .before .before .before .before .before .pre .is) ∙ c .enum-told .given .1); closed = fits k (w .rooms) (k .n) (w .passed) .closed; none-open = w .closed }
+cast-row : tie.Need-cast-row Inv-loop μ-loop
+cast-row c = omega (arith, c .before .before .before .before .before .before .before .before .before .before .before .before .before .pre .few, c .before .before .before .before .before .before .before .loop-test .taken)
 
-loop-word-requires : tie.Need-loop-word-requires
-loop-word-requires c κs = let k = kernelOf (now (c .before .before .before .before .before .before .before .before .args .rows)) (now (c .before .before .before .before .before .before .before .before .args .names)) in let w = c .before .before .before .before .before .before .before .before .pre .writable in let e = c .before .end-of .ensures in let u = total-up size (k .it) (c .before .end-of .result) (k .n) (omega (arith, e .1)) in let f = fits k (w .rooms) (k .n) (w .passed) .parcels in (omega (arith, e .1, w .few), e .2, ap (λ (x : Coded). about x .opens) (sym (c .before .before .before .before .before .before .before .before .pre .is) ∙ c .before .before .enum-told .given .1), omega (arith, w .parcels-few))
-
-put-requires-3 : tie.Need-put-requires-3
-put-requires-3 c κs = rw (c .before .before .before .before .before .before .before .before .before .pre .at-is) (loop-fits _ (c .before .before .before .before .before .before .before .before .before .pre .writable) (c .before .before .before .before .before .before .before .before .before .pre .before) (sym (c .before .before .before .before .before .before .before .before .before .pre .is) ∙ c .before .before .before .enum-told .given .1) _ (c .before .before .end-of .ensures .1) (c .before .before .end-of .ensures .0) _ (c .loop-word .ensures))
-
-enum-told-2 : tie.Need-enum-told-2
-enum-told-2 c = search needs
-
-enum-told-3 : tie.Need-enum-told-3
-enum-told-3 c = search needs
-
-enum-known-item-3 : tie.Need-enum-known-item-3
-enum-known-item-3 c = search needs
-
-same-length : tie.Need-same-length
+same-length : tie.Need-same-length Inv-loop μ-loop
 same-length c = search needs
 
-returns : tie.Need-returns
-returns c = instruction-wrote _ (c .before .before .before .before .before .before .before .before .before .before .before .pre .writable) (c .before .before .before .before .before .before .before .before .before .before .before .pre .before) (sym (c .before .before .before .before .before .before .before .before .before .before .before .pre .is) ∙ c .before .before .before .before .before .item .given .1) (c .before .before .put .ensures .0) (rw (← c .before .before .before .before .before .before .before .before .before .before .before .pre .at-is) (c .before .before .put .ensures .1))
+returns : tie.Need-returns Inv-loop μ-loop
+returns c = rw (c .enum-told .given .1) (going-stop _ _ _ (c .before .before .before .before .before .before .before .before .loop .inv .0) (c .before .before .before .before .before .before .before .loop-test .taken) (sym (c .before .before .before .before .write-item .ensures .answer) ∙ c .enum-told .given .1) (rw (c .enum-told .given .1) at (c .before .before .before .before .write-item .ensures .parcels)))
 
-same-length-2 : tie.Need-same-length-2
+enum-told-2 : tie.Need-enum-told-2 Inv-loop μ-loop
+enum-told-2 c = search needs
+
+about-requires : tie.Need-about-requires Inv-loop μ-loop
+about-requires c κs = search needs
+
+add-at : tie.Need-add-at Inv-loop μ-loop
+add-at c = let k = kernelOf (now (c .before .before .before .before .before .before .before .before .before .before .before .before .before .before .before .args .rows)) (now (c .before .before .before .before .before .before .before .before .before .before .before .before .before .before .before .args .names)) in let u = place-few k (c .before .before .before .before .before .before .before .before .before .before .before .before .before .before .before .pre) (c .before .before .before .before .before .before .before .before .before .loop-test .taken) in rw (c .before .about .ensures, c .before .before .before .before .before .before .before .before .coded-at .ensures) (omega (arith, c .before .before .before .before .before .before .before .before .before .before .loop .inv .1))
+
+add-i : tie.Need-add-i Inv-loop μ-loop
+add-i c = search needs
+
+loop-less : tie.Need-loop-less Inv-loop μ-loop
+loop-less c = search needs
+
+loop-again : tie.Need-loop-again Inv-loop μ-loop
+loop-again c = (going-next _ _ _ (c .before .before .before .before .before .before .before .before .before .before .loop .inv .0) (c .before .before .before .before .before .before .before .before .before .loop-test .taken) (sym (c .before .before .before .before .before .before .write-item .ensures .answer) ∙ c .before .before .enum-told2 .given .1) (rw (c .before .before .enum-told2 .given .1) at (c .before .before .before .before .before .before .write-item .ensures .parcels)), rw (c .before .about .ensures, c .before .before .before .before .before .before .before .before .coded-at .ensures, c .before .before .before .before .before .before .before .before .before .before .loop .inv .1) (sym (place-next (rowAt (now (c .before .before .before .before .before .before .before .before .before .before .before .before .before .before .before .args .rows)) (now (c .before .before .before .before .before .before .before .before .before .before .before .before .before .before .before .args .names))) (c .before .before .before .before .before .before .before .before .before .before .loop .i))), search needs)
+
+cast-row-2 : tie.Need-cast-row-2 Inv-loop μ-loop
+cast-row-2 c = omega (arith, c .before .before .before .before .before .before .pre .few, c .before .loop .inv .0 .within)
+
+same-length-2 : tie.Need-same-length-2 Inv-loop μ-loop
 same-length-2 c = search needs
 
-returns-2 : tie.Need-returns-2
-returns-2 c = jump-wrote _ (c .before .before .before .before .before .before .before .before .before .before .before .before .pre .writable) (c .before .before .before .before .before .before .before .before .before .before .before .before .pre .before) (sym (c .before .before .before .before .before .before .before .before .before .before .before .before .pre .is) ∙ c .before .before .before .before .before .before .item2 .given .1) (rw (← c .before .before .before .before .before .before .before .before .before .before .before .before .pre .at-is, ← c .before .before .before .jump-word .ensures) (c .before .before .put2 .ensures .0)) (rw (← c .before .before .before .before .before .before .before .before .before .before .before .before .pre .at-is, ← c .before .before .before .jump-word .ensures) (c .before .before .put2 .ensures .1))
-
-same-length-3 : tie.Need-same-length-3
-same-length-3 c = search needs
-
-returns-3 : tie.Need-returns-3
-returns-3 c = loop-wrote _ (c .before .before .before .before .before .before .before .before .before .before .before .before .pre .writable) (c .before .before .before .before .before .before .before .before .before .before .before .before .pre .before) (sym (c .before .before .before .before .before .before .before .before .before .before .before .before .pre .is) ∙ c .before .before .before .before .before .before .enum-told .given .1) _ (c .before .before .before .before .before .end-of .ensures .1) (c .before .before .before .before .before .end-of .ensures .0) _ (c .before .before .before .loop-word .ensures) (c .before .before .put3 .ensures .0) (rw (← c .before .before .before .before .before .before .before .before .before .before .before .before .pre .at-is) (c .before .before .put3 .ensures .1))
-
-returns-4 : tie.Need-returns-4
-returns-4 c = label-wrote _ (c .before .before .before .before .before .before .pre .writable) (c .before .before .before .before .before .before .pre .before) (sym (c .before .before .before .before .before .before .pre .is) ∙ c .enum-told2 .given .1)
-
-returns-5 : tie.Need-returns-5
-returns-5 c = end-wrote _ (c .before .before .before .before .before .before .pre .writable) (c .before .before .before .before .before .before .pre .before) (sym (c .before .before .before .before .before .before .pre .is) ∙ c .enum-told3 .given .1)
-
-returns-6 : tie.Need-returns-6
-returns-6 c = absurd (none-refused _ (c .before .before .before .before .before .before .before .pre .writable) (c .before .before .before .before .before .before .before .pre .before) (sym (c .before .before .before .before .before .before .before .pre .is) ∙ c .before .item3 .given .1))
+returns-2 : tie.Need-returns-2 Inv-loop μ-loop
+returns-2 c = going-end _ _ _ (c .before .loop .inv .0) (c .loop-test .left)
 
 pub write-spec : {M : Type 1} → statement M
 write-spec =
     tie.close
     (tie.spec
-    enum-known-item
-    put-requires
-    enum-known-item-2
-    jump-word-requires
-    put-requires-2
+    Inv-loop
+    μ-loop
+    loop-holds
+    coded-at-requires
+    write-item-requires
     enum-told
-    end-of-requires
-    loop-word-requires
-    put-requires-3
-    enum-told-2
-    enum-told-3
-    enum-known-item-3
+    cast-row
     same-length
     returns
+    enum-told-2
+    about-requires
+    add-at
+    add-i
+    loop-less
+    loop-again
+    cast-row-2
     same-length-2
-    returns-2
-    same-length-3
-    returns-3
-    returns-4
-    returns-5
-    returns-6)
+    returns-2)

@@ -1,7 +1,7 @@
--- By the verdict.
+-- By the cases of the verdict.
 use borrow.Author.Needs.{needs}
-use Rattle.instruction.proofs.answer_of.Statement.{statement}
-use Rattle.instruction.proofs.answer_of.Tie as tie
+use Rattle.refusals.proofs.Judged.answer.Statement.{statement}
+use Rattle.refusals.proofs.Judged.answer.Tie as tie
 
 enum-told : tie.Need-enum-told
 enum-told c = search needs
@@ -15,5 +15,5 @@ returns c = rw (c .enum-told .given .1)
 returns-2 : tie.Need-returns-2
 returns-2 c = rw (c .before .verdict .given .1)
 
-pub answer-of-spec : {M : Type 1} → statement M
-answer-of-spec = tie.close (tie.spec enum-told enum-known-verdict returns returns-2)
+pub answer-spec : {M : Type 1} → statement M
+answer-spec = tie.close (tie.spec enum-told enum-known-verdict returns returns-2)
