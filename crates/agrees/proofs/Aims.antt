@@ -14,7 +14,7 @@ use Rattle.coded.specs.declared.Coded.the-variants as coded
 use Rattle.places.specs.Items.{Kernel, isJump, total, place, jumpWidth}
 use Rattle.places.specs.Left.{Lent}
 use Rattle.places.specs.Looking.{Found, at, nothing, labelled}
-use Rattle.places.specs.Verdict.{reach, reaches}
+use Rattle.places.specs.Verdict.{reach, reaches, reachAt}
 use Rattle.prefixes.proofs.Tests.{order}
 use Rattle.refusals.proofs.Order.{refused-good, StopsAt, AllPass}
 use Rattle.prefixes.proofs.Totals.{total-up}
@@ -54,10 +54,6 @@ endOf k lent = mem (k .it) lent (k .n)
 abbrev pub jumpsAt : Kernel → Lent → ℕ → List ℕ
 jumpsAt k lent q = let m = endOf k lent in scanAt (waits k m) (settles k m) (m .lent .parcels) q
 
--- what is said of row i, if it is a jump
-abbrev pub reached : Kernel → ℕ → Verdict
-reached k i = reaches k i (k .it i)
-
 module _ (k : Kernel) (lent : Lent) (f : Fits (k .it) lent (k .n)) where
   abbrev it : ℕ → Coded
   it = k .it
@@ -94,16 +90,16 @@ module _ (k : Kernel) (lent : Lent) (f : Fits (k .it) lent (k .n)) where
         ∙ ap (λ (z : Sought). aimed (y .condition) (place it i) z ps) (found-is (y .start) (y .len))
 
   -- ---- all of them
-  by-number : (q : ℕ) (c : RowOf isJump IsJump it n q) → reached k (c .row) ≡ Good → waits k end q (jumpsAt k lent q) ≡ Good
+  by-number : (q : ℕ) (c : RowOf isJump IsJump it n q) → reachAt k (c .row) ≡ Good → waits k end q (jumpsAt k lent q) ≡ Good
   by-number q c e = subst (λ (y : ℕ). waits k end y (jumpsAt k lent y) ≡ Good) (c .number) (wait-is (c .row) (c .before) (c .is) (jumpsAt k lent (total isJump it (c .row))) ∙ e)
 
-  pub aims-good : AllPass (reached k) (k .n) → aimsOf k (endOf k lent) ≡ Good
+  pub aims-good : AllPass (reachAt k) (k .n) → aimsOf k (endOf k lent) ≡ Good
   aims-good all =
       let e = jumps-is in
       all-scan (waits k end) (settles k end) (end .lent .parcels) (end .s .jumps) 0 (λ q u w. let c = jump-row it n q (omega arith) in by-number q c (all (c .row) (c .before)))
 
   -- the first jump that is refused: why, and its row as the table has it
-  pub aims-stop : (s : StopsAt (reached k) (k .n)) → (aimsOf k (endOf k lent) ≡ Refused (s .why)) × (aimsRow k (endOf k lent) ≡ s .row)
+  pub aims-stop : (s : StopsAt (reachAt k) (k .n)) → (aimsOf k (endOf k lent) ≡ Refused (s .why)) × (aimsRow k (endOf k lent) ≡ s .row)
   aims-stop s = ⊎-elim (λ z. absurd (refused-good (s .why) (sym (s .fails) ∙ no-reach k (s .row) (it (s .row)) z))) jump (jump-or-not (it (s .row)))
     where
       jump : IsJump (it (s .row)) → (aimsOf k end ≡ Refused (s .why)) × (aimsRow k end ≡ s .row)

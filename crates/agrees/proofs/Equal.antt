@@ -20,7 +20,7 @@ use Rattle.refusals.specs.declared.Judged.{Judged}
 use Rattle.refusals.specs.Order.{when, passing, ofRow, firstIn, foremost}
 use Rattle.places.specs.Left.{lentOf, outcome, Lent, roomsIn, gather, put, zeroLoop, Outcome, built, withLoops}
 use Rattle.refusals.specs.Numbers.{answerOf}
-use Rattle.places.specs.Verdict.{verdictAt}
+use Rattle.places.specs.Verdict.{verdictAt, reachAt}
 use Rattle.places.specs.Looking.{opener, deepest}
 use Rattle.prefixes.proofs.Looking.{pick-true, pick-false}
 use Rattle.refusals.proofs.Order.{StopsAt, AllPass, either, all-first, all-passing, stop-first, stop-passing}
@@ -42,7 +42,7 @@ use Rattle.agrees.proofs.Loops.{zeros-are}
 use Rattle.refusals.proofs.Scans.{scan-stop, scan-low}
 use Rattle.agrees.proofs.Same.{row-is}
 use Rattle.agrees.proofs.Parcels.{parts, parts-length, parcels-are}
-use Rattle.agrees.proofs.Aims.{jumpsAt, reached, jumps-is, aims-good, aims-stop}
+use Rattle.agrees.proofs.Aims.{jumpsAt, jumps-is, aims-good, aims-stop}
 use Rattle.agrees.proofs.Aimed.{final, stage, stage-length, staged, aimed-are}
 
 module _ (k : Kernel) (lent : Lent) (fine : KernelFine k) where
@@ -76,7 +76,7 @@ module _ (k : Kernel) (lent : Lent) (fine : KernelFine k) where
 
   -- what is asked once every row has passed
   abbrev rest : Bool → List Judged
-  rest t = ofRow (opener it n) (when t UnclosedLoop) ∷ firstIn (reached k) n ∷ []
+  rest t = ofRow (opener it n) (when t UnclosedLoop) ∷ firstIn (reachAt k) n ∷ []
 
   -- ---- the rows before t pass
   module _ (t : ℕ) (all : AllPass pass t) where
@@ -169,18 +169,18 @@ module _ (k : Kernel) (lent : Lent) (fine : KernelFine k) where
         wiped-is n all why row (aimsP k (M n)) (rest-is (settling-is (aimsEnd k (M n)) (omega arith)))
 
     -- what is said of the waiting jumps, with its row; an accepted list names none
-    aims-named : AllPass (reached k) n ⊎ StopsAt (reached k) n → came (ofRow (aimsRow k (M n)) (aimsOf k (M n))) n ≡ came (foremost (firstIn (reached k) n ∷ [])) n
+    aims-named : AllPass (reachAt k) n ⊎ StopsAt (reachAt k) n → came (ofRow (aimsRow k (M n)) (aimsOf k (M n))) n ≡ came (foremost (firstIn (reachAt k) n ∷ [])) n
     aims-named (inl a) =
         ap (λ (v : Verdict). came (ofRow (aimsRow k (M n)) v) n) (aims-good k lent f a)
-        ∙ ap (λ (v : Verdict). came (foremost (ofRow (passing (reached k) n) v ∷ [])) n) (sym (all-first (reached k) n a))
+        ∙ ap (λ (v : Verdict). came (foremost (ofRow (passing (reachAt k) n) v ∷ [])) n) (sym (all-first (reachAt k) n a))
     aims-named (inr s) =
         let t = aims-stop k lent f s in
-        ap₂ (λ (i : ℕ) (v : Verdict). came (ofRow i v) n) (t .1 ∙ sym (stop-passing (reached k) n s)) (t .0)
-        ∙ ap (λ (v : Verdict). came (foremost (ofRow (passing (reached k) n) v ∷ [])) n) (sym (stop-first (reached k) n s))
+        ap₂ (λ (i : ℕ) (v : Verdict). came (ofRow i v) n) (t .1 ∙ sym (stop-passing (reachAt k) n s)) (t .0)
+        ∙ ap (λ (v : Verdict). came (foremost (ofRow (passing (reachAt k) n) v ∷ [])) n) (sym (stop-first (reachAt k) n s))
 
     by-nest : (t : Bool) → ltb 0 (nest it n) ≡ t → finish k (opener it n) (when t UnclosedLoop) (closed (M n)) ≡ came (foremost (rest t)) n
     by-nest true e = wiped-is n all UnclosedLoop (opener it n) (M n .lent .parcels) (rest-is (P-is n all))
-    by-nest false e = by-aims (aimsRow k (M n)) (aimsOf k (M n)) refl ∙ aims-named (either (reached k) n)
+    by-nest false e = by-aims (aimsRow k (M n)) (aimsOf k (M n)) refl ∙ aims-named (either (reachAt k) n)
 
     taken-is : outOf k r m₀ ≡ built k lent
     taken-is =

@@ -2,4 +2,4 @@ pub mod Tally
 pub mod Single
 pub mod Agree
 pub mod Numbers
-pub mod Named
+pub mod WhichRow

@@ -1,4 +1,4 @@
--- An instrument of the plain build's proof: what a look over the rows leans on.
+-- An instrument of the builds' proofs: what a look over the rows leans on.
 use mathlib.Core.Path.{_≡_}
 use mathlib.Core.List.{List}
 use Prim.Native.Nat.{ℕ, _≤_, _<_}

@@ -26,14 +26,14 @@ use Rattle.plain.specs.Once.{from, writes}
 use Rattle.plain.proofs.Once.{each-once}
 use Rattle.counts.specs.declared.Counting.{Counting}
 use Rattle.counts.specs.Counts.{rowVerdict, Passes, Counts, numbersFor}
-use Rattle.counts.specs.Named as counts
+use Rattle.counts.specs.WhichRow as counts
 use Rattle.counts.proofs.Single.{no-second-count}
-use Rattle.counts.proofs.Named.{count-names-row}
+use Rattle.counts.proofs.WhichRow.{count-names-row}
 use Rattle.counts.proofs.Numbers.{count-zero, count-numbers}
 use Rattle.slots.specs.Slots.{Filled, Checks, slotNumbers}
-use Rattle.slots.specs.Named as slots
+use Rattle.slots.specs.WhichRow as slots
 use Rattle.slots.proofs.Single.{no-second-verdict}
-use Rattle.slots.proofs.Named.{slot-check-names-row}
+use Rattle.slots.proofs.WhichRow.{slot-check-names-row}
 use Rattle.slots.proofs.Numbers.{check-zero, check-numbers}
 use Rattle.parcel_bytes.specs.declared.ToldBytes.{ToldBytes}
 use Rattle.parcel_bytes.specs.Bytes.{Writes}

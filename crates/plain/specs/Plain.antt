@@ -28,7 +28,7 @@ use Rattle.places.specs.declared.Rooms.{Rooms}
 use Rattle.places.specs.declared.Traits.{Traits}
 use Rattle.places.specs.Items.{Kernel, kernelOf, rowAt, rowsIn, about, isLabel, isJump, total, place, addressOf, nest, labelWidth, jumpWidth, mostParcels, mostEntries, mostLoops}
 use Rattle.places.specs.Looking.{at, opener, closer, deepest}
-use Rattle.places.specs.Verdict.{faults, reaches, loopRow, verdictAt, taken}
+use Rattle.places.specs.Verdict.{faults, reachAt, loopRow, verdictAt, taken}
 use Rattle.places.specs.Left.{Lent, lentOf, left}
 use Rattle.tables.specs.declared.Sought.{Sought}
 use Rattle.tables.specs.declared.Sought.the-variants.{At, Nowhere}
@@ -184,7 +184,7 @@ pub record StartWord (rows names : List ℕ) (i : ℕ) (f : Form) : Type 0 where
 
 -- whether its jump reaches its label
 abbrev pub aims : Kernel → ℕ → List ℕ → Verdict
-aims k i ps = reaches k i (k .it i)
+aims k i ps = reachAt k i
 
 pub record Writable (k : Kernel) (ls : List ℕ) (count room : ℕ) : Type 0 where
   pub rooms : Rooms

@@ -22,7 +22,8 @@ use Rattle.prefixes.proofs.Nesting.{nest-opens}
 use Rattle.prefixes.proofs.Tests.{not-so}
 use Rattle.refusals.proofs.Order.{when-good, AllGood, good-when, first-good, good-first, first-all, all-first}
 use Rattle.rules.specs.Rules.{Valid}
-use Rattle.rules.proofs.Rows.{RowsPass, JumpsReach, rule1}
+use Rattle.rules.specs.WhichRow.{RowsPass}
+use Rattle.rules.proofs.Rows.{JumpsReach, rule1}
 use Rattle.rules.proofs.Labels.{rule2, unique, jump-reaches}
 use Rattle.rules.proofs.Loops.{rule3, rule4, rule5}
 use Rattle.rules.proofs.Ends.{outside, no-branch, end-passes}

@@ -19,7 +19,8 @@ use Rattle.refusals.proofs.Order.{refused-good, when-good}
 use Rattle.prefixes.proofs.Looking.{not-found, at-nothing, earliest-row}
 use Rattle.prefixes.proofs.Names.{Named, bears-label, label-bears}
 use Rattle.rules.specs.Rules.{SameName, Aimed, Rule2}
-use Rattle.rules.proofs.Rows.{RowsPass, JumpsReach, passed}
+use Rattle.rules.specs.WhichRow.{RowsPass}
+use Rattle.rules.proofs.Rows.{JumpsReach, passed}
 
 module _ (k : Kernel) (named : Named k) where
   open Kernel k using (names, it, n)

@@ -23,7 +23,8 @@ use Rattle.prefixes.proofs.Traits.{entry-bit, opens-entry, wide-entry}
 use Rattle.prefixes.proofs.Totals.{total-up, counted, last-is}
 use Rattle.rules.specs.Rules.{Pair, Body, Rule3, Last, Rule4, Rule5}
 use Rattle.rules.proofs.Pairs.{pair-open, pair-opener, pair-from}
-use Rattle.rules.proofs.Rows.{RowsPass, passed}
+use Rattle.rules.specs.WhichRow.{RowsPass}
+use Rattle.rules.proofs.Rows.{passed}
 
 module _ (k : Kernel) (r : Rooms) (rows : RowsPass k r) where
   open Kernel k using (it, n)

@@ -35,7 +35,7 @@ use Rattle.prefixes.proofs.Names.{Named}
 use Rattle.prefixes.proofs.Gathered.{gather-at}
 use Rattle.rules.specs.Rules.{SameName, Pair, Last, Valid}
 use Rattle.rules.specs.Accepted.{WordAt, JumpCarries, LoopCarries, AcceptedParcels}
-use Rattle.rules.proofs.Rows.{RowsPass}
+use Rattle.rules.specs.WhichRow.{RowsPass}
 use Rattle.rules.proofs.Labels.{labelled-is}
 use Rattle.rules.proofs.Pairs.{pair-from, pair-open}
 use Rattle.rules.proofs.Loops.{loop-form}

@@ -11,7 +11,7 @@ use Rattle.places.specs.Items.{Kernel, total}
 use Rattle.prefixes.proofs.Totals.{total-up}
 use Rattle.prefixes.proofs.Passing.{Fits, fits}
 use Rattle.rules.specs.Rules.{Rule6}
-use Rattle.rules.proofs.Rows.{RowsPass}
+use Rattle.rules.specs.WhichRow.{RowsPass}
 
 module _ (k : Kernel) (r : Rooms) (rows : RowsPass k r) where
   open Kernel k using (it, n)

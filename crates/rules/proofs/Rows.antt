@@ -7,18 +7,16 @@ use Rattle.refusals.specs.declared.Verdict.the-variants.{Good}
 use Rattle.coded.specs.declared.Coded.{Coded}
 use Rattle.coded.specs.declared.Coded.the-variants.{Refused}
 use Rattle.places.specs.Items.{Kernel}
-use Rattle.places.specs.Verdict.{faults, reaches, verdictAt}
+use Rattle.places.specs.Verdict.{faults, reachAt}
 use Rattle.places.specs.declared.Rooms.{Rooms}
 use Rattle.refusals.proofs.Order.{AllGood, refused-good}
 use Rattle.prefixes.proofs.Passing as passing
 use Rattle.rules.specs.Rules.{Rule1}
+use Rattle.rules.specs.WhichRow.{RowsPass}
 
--- every row passes, and every jump reaches its label
-abbrev pub RowsPass : Kernel → Rooms → Type 0
-RowsPass k r = (i : ℕ) → i < k .n → verdictAt k r i ≡ Good
-
+-- every jump reaches its label
 abbrev pub JumpsReach : Kernel → Type 0
-JumpsReach k = (i : ℕ) → i < k .n → reaches k i (k .it i) ≡ Good
+JumpsReach k = (i : ℕ) → i < k .n → reachAt k i ≡ Good
 
 module _ (k : Kernel) (r : Rooms) (rows : RowsPass k r) where
   pub passed : (i : ℕ) → i < k .n → (x : Coded) → k .it i ≡ x → AllGood (faults k r i x)

@@ -6,4 +6,4 @@ pub mod Numbers
 pub mod Labels
 pub mod WithoutLabels
 pub mod Around
-pub mod Named
+pub mod WhichRow

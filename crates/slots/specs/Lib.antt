@@ -2,4 +2,4 @@ pub mod Slots
 pub mod Watch
 pub mod WithoutLabels
 pub mod Kernels
-pub mod Named
+pub mod WhichRow

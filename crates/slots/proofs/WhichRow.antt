@@ -20,11 +20,11 @@ use Rattle.refusals.proofs.Within.{none, other}
 use Rattle.coded.specs.Coded.{readVerdict}
 use Rattle.places.specs.Items.{rowAt, rowsIn}
 use Rattle.counts.specs.Counts.{listJudged, Passes}
-use Rattle.counts.specs.Named.{NamesFirst}
+use Rattle.counts.specs.WhichRow.{NamesFirst}
 use Rattle.counts.proofs.Numbers.{passes-good, read-tells}
-use Rattle.counts.proofs.Named.{which, when-refused, Says, listed-says, names-other}
+use Rattle.counts.proofs.WhichRow.{which, when-refused, Says, listed-says, names-other}
 use Rattle.slots.specs.Slots.{opens, items, unlabelled, filled, slotVerdict, slotCheckOf, Checks}
-use Rattle.slots.specs.Named.{NamesRow}
+use Rattle.slots.specs.WhichRow.{NamesRow}
 
 module _ (rows names : List ℕ) where
   abbrev slot : ℕ → Verdict

@@ -7,7 +7,7 @@ use Rattle.refusals.specs.Numbers.{alone}
 use Rattle.coded.specs.Coded.{readVerdict}
 use Rattle.places.specs.Items.{rowAt, rowsIn}
 use Rattle.counts.specs.Counts.{Passes}
-use Rattle.counts.specs.Named.{NamesFirst}
+use Rattle.counts.specs.WhichRow.{NamesFirst}
 use Rattle.slots.specs.Slots.{slotVerdict}
 
 -- 1 names no row; a row refusal names the first row that is refused; 33 comes where every row is read, names the first jump whose slots are

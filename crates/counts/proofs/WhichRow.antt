@@ -22,7 +22,7 @@ use Rattle.coded.specs.declared.Coded.{Coded}
 use Rattle.places.specs.Items.{rowAt, rowsIn, total}
 use Rattle.counts.specs.declared.Counting.{Counting}
 use Rattle.counts.specs.Counts.{rowVerdict, amount, listJudged, Counts}
-use Rattle.counts.specs.Named.{NamesFirst, NamesRow}
+use Rattle.counts.specs.WhichRow.{NamesFirst, NamesRow}
 use Rattle.counts.proofs.Numbers.{row, row-not-one}
 
 -- ---- of two, the refusal is the first's, or the second's where the first is good
