@@ -1,12 +1,13 @@
 # The commands of the repository. `make help` lists them.
 SHELL := /bin/sh
 KERNEL ?= examples/branch.kernel
+PARCELS ?= examples/branch.parcels
 LINK := target/staticlib/liblink.a
 ORACLE := target/oracle
 # What runs a program for x86-64: nothing on such a machine, `tools/run` on another.
 X86_64 := $(if $(filter x86_64,$(shell uname -m)),,sh tools/run)
 
-.PHONY: help run test docs walks docs-check oracle sample link compare compare-short check-memory speed
+.PHONY: help run readback test docs walks docs-check oracle sample link compare compare-short check-memory speed
 
 help: ## this list
 	@sed -n 's/^\([a-z-]*\):.*## \(.*\)/make \1|\2/p' Makefile | column -t -s '|'
@@ -14,6 +15,10 @@ help: ## this list
 run: ## build the bench program and run it on KERNEL (default: examples/branch.kernel)
 	@rt check bench
 	@sh tools/run target/bin/bench < $(KERNEL)
+
+readback: ## build the program readback and run it on PARCELS (default: examples/branch.parcels)
+	@rt check readback
+	@sh tools/run target/bin/readback < $(PARCELS)
 
 test: ## the verdict: prove every crate from nothing, try the must-fail edits, run the programs
 	@rt ci
@@ -35,7 +40,7 @@ docs-check: ## check that the documents, and the printed proofs, are what the de
 	@python3 tools/believed --check
 	@python3 tools/map --check
 	@mkdir -p target
-	@rt check bench layouts engines >target/docs-check.log || { tail -n 5 target/docs-check.log; exit 1; }
+	@rt check bench readback layouts engines >target/docs-check.log || { tail -n 5 target/docs-check.log; exit 1; }
 	@python3 tools/examples
 	@python3 tools/engines --check
 

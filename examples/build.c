@@ -1,7 +1,8 @@
 /*
- * Builds a small kernel through the C interface and prints its parcels and bytes; then one whose
- * jump leads nowhere, and prints the refusal with its row and its name. Checks the slots of delayed jumps. Builds
- * both kernels by both engines, and compares what they answer and leave.
+ * Builds a small kernel through the C interface and prints its parcels and bytes, and the rows that are
+ * read back from them; then one whose jump leads nowhere, and prints the refusal with its row and its
+ * name. Checks the slots of delayed jumps. Builds both kernels by both engines, and compares what they
+ * answer and leave.
  */
 #include <inttypes.h>
 #include <stdio.h>
@@ -126,6 +127,27 @@ static void print_built(const uint32_t *rows, size_t rows_len)
     print_bytes(lent.parcels, told.count);
 }
 
+/* Builds a kernel and reads its parcels back: the kind and the place of each row; then what is refused. */
+static void print_read_back(const uint32_t *rows, size_t rows_len)
+{
+    struct lent lent;
+    uint32_t back[PARCELS][LHODRUPESH_ROW];
+    uint64_t places[PARCELS];
+    struct lhodrupesh_told told = build(lhodrupesh_build, rows, rows_len, &lent);
+    struct lhodrupesh_rows read =
+        lhodrupesh_read_back(lent.parcels, told.count, back[0], NUMBERS(back), places, PARCELS);
+
+    printf("read back: %" PRIu64 " rows", read.rows);
+    for (uint64_t row = 0; row < read.rows; row++)
+        printf(", kind %" PRIu32 " at %" PRIu64, back[row][0], places[row]);
+    printf("\n");
+
+    read = lhodrupesh_read_back(lent.parcels, 5, back[0], NUMBERS(back), places, PARCELS);
+    printf("cut to 5 parcels: number %" PRIu32 " at %" PRId64, read.number, read.first);
+    read = lhodrupesh_read_back(lent.parcels, told.count, back[0], NUMBERS(back), places, 2);
+    printf("; room for 2 rows: number %" PRIu32 " of %" PRId64 "\n", read.number, read.first);
+}
+
 /* By both engines, over memory that holds the same before. */
 static void print_engines(const uint32_t *rows, size_t rows_len)
 {
@@ -158,6 +180,7 @@ int main(void)
     print_built(count_down[0], NUMBERS(count_down));
     print_counts(count_down[0], NUMBERS(count_down));
     print_counts(astray[0], NUMBERS(astray));
+    print_read_back(count_down[0], NUMBERS(count_down));
     print_built(astray[0], NUMBERS(astray));
     print_slots(labelled_slot[0], NUMBERS(labelled_slot));
     print_slots(broken_slot[0], NUMBERS(broken_slot));

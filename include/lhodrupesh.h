@@ -9,7 +9,8 @@
  * to this, and to nothing else:
  *   - the pointer isn't NULL and is aligned for its elements, also where the length is 0;
  *   - so many elements lie there, and nobody else writes to them during the call;
- *   - what a call writes to (parcels, labels, jumps, loops; bytes) overlaps no other slice of it.
+ *   - what a call writes to (parcels, labels, jumps, loops; bytes; rows, places) overlaps no other
+ *     slice of it.
  * What is lent to be written to may hold anything before.
  *
  * ROWS. A row is seventeen numbers: a kind, then the fields, then zeros. Signed fields are two's
@@ -23,7 +24,8 @@
  * doesn't name are 0. Rows and parcels are numbered from 0. The third detail says which row a call on a
  * list refuses: the refused row itself, so the loop end for 20 to 22 and 24 to 26, and the second of two
  * labels for 11; for 23 the innermost loop start that is still open; for 12, and for 9 of a jump to a
- * label, the jump; for 33 the jump again. It is 0 for 1, and in the calls that take no list.
+ * label, the jump; for 33 the jump again. It is 0 for 1, and in the calls that take no list, so for 34,
+ * 35 and 36 too.
  *
  * The third detail stands after the other details of each answer, and moved what follows: a program
  * that was compiled with a header without it has to be compiled anew.
@@ -85,6 +87,16 @@ struct lhodrupesh_written {
     int64_t first;   /* refused: the bytes lent */
     int64_t third;   /* 0 */
     uint32_t number; /* 0: accepted. 34: bytes fewer than twice the parcels; nothing written */
+    uint32_t spare;  /* 0 */
+};
+
+/* What reading parcels back answers. */
+struct lhodrupesh_rows {
+    uint64_t rows;   /* accepted: how many rows were written. Refused: 0 */
+    int64_t first;   /* 35: the place of the unknown or cut form's first parcel. 36: the smaller room */
+    int64_t second;  /* 0 */
+    int64_t third;   /* 0 */
+    uint32_t number; /* 0: accepted. 35: no known form starts there. 36: no room for another row */
     uint32_t spare;  /* 0 */
 };
 
@@ -166,6 +178,26 @@ struct lhodrupesh_told lhodrupesh_slot_check(const uint32_t *rows, size_t rows_l
  */
 struct lhodrupesh_written lhodrupesh_bytes(const uint16_t *parcels, size_t parcels_len,
                                            uint8_t *bytes, size_t bytes_len);
+
+/*
+ * Reads finished parcels back: an instruction row for each form that a build can emit, from left to
+ * right, with its place. A form is known by its parcels alone. Jumps come back as kind 28 with their
+ * offset, loop starts as kind 50, which has no offset; the six parcels of a LeafReturn are one row. Of two
+ * rows with the same parcels the one with the larger kind is given: LoadImmediate as 17, a push as
+ * StoreImmediate I7, M7 (35), a compute alone as 32. Encoding a row that was given yields its parcels,
+ * but for kind 50, whose word is checked by the reader: an immediate count isn't 0 and the offset is 3 to
+ * 0x3fffff.
+ *   parcels, parcels_len   the parcels; there is no limit to their number
+ *   rows, rows_len         room for rows: the length over 17, rounded down
+ *   places, places_len     room for the place of each row: its first parcel
+ *
+ * Accepted: the rows stand at the front of theirs, their places at the front of theirs. Refused: 35 for
+ * a parcel that starts no known form, or one that is cut short, then 36 when rows or places are full;
+ * zeros stand in the rows and places that were written. All else is unchanged.
+ */
+struct lhodrupesh_rows lhodrupesh_read_back(const uint16_t *parcels, size_t parcels_len,
+                                            uint32_t *rows, size_t rows_len,
+                                            uint64_t *places, size_t places_len);
 
 #ifdef __cplusplus
 }

@@ -53,31 +53,47 @@ const GUARD: usize = 256;
 /// and that isn't zero.
 pub struct Guarded<T> {
     all: Vec<T>,
+    guard: usize,
 }
 
 impl Guarded<u8> {
     /// So many bytes to lend.
     pub fn bytes(length: usize) -> Self {
-        Self::new(length, |place| small(place) as u8)
+        Self::new(length, GUARD, |place| small(place) as u8)
     }
 }
 
 impl Guarded<u16> {
     /// So many parcels to lend.
     pub fn parcels(length: usize) -> Self {
-        Self::new(length, small)
+        Self::new(length, GUARD, small)
+    }
+}
+
+impl Guarded<u32> {
+    /// So many numbers to lend, and so many on either side.
+    pub fn numbers(length: usize, guard: usize) -> Self {
+        Self::new(length, guard, large)
+    }
+}
+
+impl Guarded<u64> {
+    /// So many places to lend, and so many on either side.
+    pub fn places(length: usize, guard: usize) -> Self {
+        let pattern = |place| u64::from(large(place)) << 32 | u64::from(large(place + 1));
+        Self::new(length, guard, pattern)
     }
 }
 
 impl<T: Copy> Guarded<T> {
-    fn new(length: usize, pattern: fn(usize) -> T) -> Self {
-        let all = (0..length + 2 * GUARD).map(pattern).collect();
-        Self { all }
+    fn new(length: usize, guard: usize, pattern: fn(usize) -> T) -> Self {
+        let all = (0..length + 2 * guard).map(pattern).collect();
+        Self { all, guard }
     }
 
     pub fn lent(&mut self) -> &mut [T] {
-        let end = self.all.len() - GUARD;
-        &mut self.all[GUARD..end]
+        let end = self.all.len() - self.guard;
+        &mut self.all[self.guard..end]
     }
 
     /// The first place that differs, counted from the buffer's start: guards before it are
@@ -90,7 +106,7 @@ impl<T: Copy> Guarded<T> {
             return None;
         }
         let at = self.all.iter().zip(&port.all).position(|(a, b)| a != b)?;
-        let from_start = at as i64 - GUARD as i64;
+        let from_start = at as i64 - self.guard as i64;
         Some(format!("{what} {from_start}: {:?} expected, {:?} found", self.all[at], port.all[at]))
     }
 }
@@ -119,9 +135,9 @@ impl Buffers {
     pub fn new(lengths: &Lengths) -> Self {
         Self {
             parcels: Guarded::parcels(lengths.parcels),
-            labels: Guarded::new(lengths.labels, large),
-            jumps: Guarded::new(lengths.jumps, large),
-            loops: Guarded::new(lengths.loops, record),
+            labels: Guarded::numbers(lengths.labels, GUARD),
+            jumps: Guarded::numbers(lengths.jumps, GUARD),
+            loops: Guarded::new(lengths.loops, GUARD, record),
         }
     }
 

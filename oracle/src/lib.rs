@@ -1,9 +1,11 @@
 //! The unchanged `qc_asm` as oracle of the port: rows and lists in document 01's shape go in,
 //! parcels, counts and refusals in document 01's numbers come out.
 
+pub mod backwards;
 pub mod bench;
 pub mod cases;
 pub mod every_row;
+pub mod finished;
 pub mod fronts;
 pub mod huge;
 pub mod judge;

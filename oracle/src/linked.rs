@@ -150,3 +150,58 @@ pub mod bytes {
         }
     }
 }
+
+/// The port's reading of finished parcels.
+pub mod back {
+    use lhodrupesh::{c, plain, read_back, Read};
+
+    use crate::backwards::Answer;
+    use crate::row::Row;
+
+    /// What a reader is called in a report, and its call.
+    pub type Reader = (&'static str, fn(&[u16], &mut [u32], &mut [u64]) -> Answer);
+
+    /// By the module for C and by the plain interface.
+    pub const READERS: [Reader; 2] =
+        [("the reader by C", by_c), ("the reader by the crate", by_crate)];
+
+    pub fn by_c(parcels: &[u16], rows: &mut [u32], places: &mut [u64]) -> Answer {
+        let c::Rows { rows, first, second, third, number, spare } =
+            c::read_back(parcels, rows, places);
+        Answer { rows, first, second, third, number, spare }
+    }
+
+    fn by_crate(parcels: &[u16], rows: &mut [u32], places: &mut [u64]) -> Answer {
+        match plain::read_back(parcels, rows, places) {
+            Ok(count) => Answer { rows: count as u64, ..Answer::default() },
+            Err(refusal) => {
+                let (first, second) = refusal.details();
+                Answer { number: refusal.number(), first, second, ..Answer::default() }
+            }
+        }
+    }
+
+    /// A value that the crate's types read: its place, its row and its parcels made anew. A loop
+    /// start's are its offset instead.
+    #[derive(Debug, PartialEq, Eq)]
+    pub struct Value {
+        pub place: usize,
+        pub row: Row,
+        pub made: Result<Vec<u16>, u32>,
+    }
+
+    /// The values that the crate's types read, or the place of the unknown form.
+    pub fn values(parcels: &[u16]) -> Result<Vec<Value>, usize> {
+        let made = |read| match read {
+            Read::Instruction(instruction) => Ok(instruction.parcels().expect("it encodes")),
+            Read::LoopStart { offset, .. } => Err(offset),
+        };
+        let read = read_back(parcels).map_err(|unknown| unknown.place)?.into_iter();
+        let value = |placed: lhodrupesh::Placed| Value {
+            place: placed.place,
+            row: placed.read.row(),
+            made: made(placed.read),
+        };
+        Ok(read.map(value).collect())
+    }
+}

@@ -423,7 +423,7 @@ fn encode(instruction: VisaInstruction) -> Result<Vec<u16>, Refusal> {
 }
 
 /// 12a: 0c with the count in 39:24, or 0d with the code in 38:32; F1 in 23; offset in 22:0.
-fn loop_word(count: LoopCount, mode: LoopMode, offset: i64) -> u64 {
+pub fn loop_word(count: LoopCount, mode: LoopMode, offset: i64) -> u64 {
     let count = match count {
         LoopCount::Immediate(count) => 0x0c00_0000_0000 + (u64::from(count) << 24),
         LoopCount::Register(register) => 0x0d00_0000_0000 + (u64::from(register.code()) << 32),

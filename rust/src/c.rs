@@ -84,6 +84,32 @@ pub struct Written {
     pub spare: u32,
 }
 
+/// What reading parcels back answers: the number of rows, or refusal 35 or 36.
+///
+/// ```
+/// let (mut rows, mut places) = ([0; 17], [0; 1]);
+/// let read = lhodrupesh::c::read_back(&[0x0001], &mut rows, &mut places);
+/// assert_eq!((read.number, read.rows), (0, 1));
+/// let read = lhodrupesh::c::read_back(&[0x0001, 0x0001], &mut rows, &mut places);
+/// assert_eq!((read.number, read.rows, read.first), (36, 0, 1));
+/// ```
+#[repr(C)]
+#[derive(Debug, Clone, Copy, PartialEq, Eq, Default)]
+pub struct Rows {
+    /// How many rows were written; 0 in a refusal.
+    pub rows: u64,
+    /// The refusal's detail: the place of the unknown or cut form in 35, the smaller room in 36.
+    pub first: i64,
+    /// 0.
+    pub second: i64,
+    /// 0.
+    pub third: i64,
+    /// 0, 35 or 36.
+    pub number: u32,
+    /// 0.
+    pub spare: u32,
+}
+
 /// A record of the lent table of open loops. A build leaves zeros in those that it used.
 ///
 /// ```
@@ -162,6 +188,15 @@ extern "C" {
         bytes: *mut u8,
         bytes_len: usize,
     ) -> Written;
+
+    fn lhodrupesh_read_back(
+        parcels: *const u16,
+        parcels_len: usize,
+        rows: *mut u32,
+        rows_len: usize,
+        places: *mut u64,
+        places_len: usize,
+    ) -> Rows;
 }
 
 // SAFETY, of every call below: each pointer and length are those of a slice that outlives the call;
@@ -180,10 +215,10 @@ pub fn instruction(row: &[u32]) -> One {
     unsafe { lhodrupesh_instruction(row.as_ptr(), row.len()) }
 }
 
-/// The call of an engine: of each slice its pointer and length.
-macro_rules! built {
-    ($engine:ident($($read:ident),*; $($lent:ident),*)) => {
-        unsafe { $engine($($read.as_ptr(), $read.len(),)* $($lent.as_mut_ptr(), $lent.len()),*) }
+/// A call of so many slices: of each its pointer and length.
+macro_rules! lent {
+    ($call:ident($($read:ident),*; $($lent:ident),*)) => {
+        unsafe { $call($($read.as_ptr(), $read.len(),)* $($lent.as_mut_ptr(), $lent.len()),*) }
     };
 }
 
@@ -204,7 +239,7 @@ pub fn build(
     jumps: &mut [u32],
     loops: &mut [LoopRecord],
 ) -> Told {
-    built!(lhodrupesh_build(rows, names; parcels, labels, jumps, loops))
+    lent!(lhodrupesh_build(rows, names; parcels, labels, jumps, loops))
 }
 
 /// The build of a list by the plain engine: the same answer, and the same in the lent buffers.
@@ -224,7 +259,7 @@ pub fn build_plain(
     jumps: &mut [u32],
     loops: &mut [LoopRecord],
 ) -> Told {
-    built!(lhodrupesh_build_plain(rows, names; parcels, labels, jumps, loops))
+    lent!(lhodrupesh_build_plain(rows, names; parcels, labels, jumps, loops))
 }
 
 /// The parcel count of a list.
@@ -270,4 +305,16 @@ pub fn slot_check(rows: &[u32], names: &[u8]) -> Told {
 #[inline]
 pub fn bytes(parcels: &[u16], bytes: &mut [u8]) -> Written {
     unsafe { lhodrupesh_bytes(parcels.as_ptr(), parcels.len(), bytes.as_mut_ptr(), bytes.len()) }
+}
+
+/// Reads finished parcels back: rows, and the place of each.
+///
+/// ```
+/// let (mut rows, mut places) = ([7; 2 * 17], [7; 2]);
+/// let read = lhodrupesh::c::read_back(&[0x0001, 0x99b2], &mut rows, &mut places);
+/// assert_eq!((read.rows, places, &rows[17..21]), (2, [0, 1], &[20, 2, 4, 6][..]));
+/// ```
+#[inline]
+pub fn read_back(parcels: &[u16], rows: &mut [u32], places: &mut [u64]) -> Rows {
+    lent!(lhodrupesh_read_back(parcels; rows, places))
 }

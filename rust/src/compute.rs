@@ -52,6 +52,20 @@ pub struct FloatMulAlu {
     pub alu_y: Register,
 }
 
+impl FloatMulAlu {
+    fn of_fields(f: &[u32]) -> Option<Self> {
+        Some(Self {
+            product: row::data(f[0])?,
+            mul_x: row::data(f[1])?,
+            mul_y: row::data(f[2])?,
+            op: row::one_of(&[AluOp::Add, AluOp::Sub], f[3])?,
+            alu_dst: row::data(f[4])?,
+            alu_x: row::data(f[5])?,
+            alu_y: row::data(f[6])?,
+        })
+    }
+}
+
 /// A compute that may stand alone or beside moves.
 ///
 /// ```
@@ -135,6 +149,19 @@ impl Compute {
         let [.., middle, low] = *parcels else { unreachable!("a compute takes three parcels") };
         let field = (u32::from(middle) << 16 | u32::from(low)) % (1 << FIELD_BITS);
         Ok(Self { field, ..alone })
+    }
+
+    /// The compute that the eight places of a row say. No compute is `Some(None)`.
+    pub(crate) fn of_places(places: &[u32]) -> Option<Option<Self>> {
+        let compute = match places[0] {
+            0 => return Some(None),
+            1 if has_register_fields(places[1]) => {
+                Self::single(VisaInstruction::of_fields(places[1], &places[2..])?)
+            }
+            2 => Self::float_mul_alu(FloatMulAlu::of_fields(&places[1..])?),
+            _ => return None,
+        };
+        compute.ok().map(Some)
     }
 
     /// The row of this kind with the compute first and these fields after it.

@@ -237,6 +237,30 @@ impl From<Error> for VisaError {
     }
 }
 
+/// Parcels that can't be read back: at this place no known form starts, or one that is cut short.
+/// `qc_asm` has nothing of this name.
+///
+/// ```
+/// use lhodrupesh::UnknownForm;
+///
+/// let error = lhodrupesh::read_back(&[0x0001, 0xffff]).unwrap_err();
+/// assert_eq!(error, UnknownForm { place: 1 });
+/// assert_eq!(error.to_string(), "parcel 1 starts no known form, or one that is cut short");
+/// ```
+#[derive(Debug, Clone, Copy, PartialEq, Eq)]
+pub struct UnknownForm {
+    /// The first parcel of the form, from 0.
+    pub place: usize,
+}
+
+impl fmt::Display for UnknownForm {
+    fn fmt(&self, out: &mut fmt::Formatter<'_>) -> fmt::Result {
+        write!(out, "parcel {} starts no known form, or one that is cut short", self.place)
+    }
+}
+
+impl std::error::Error for UnknownForm {}
+
 /// The inputs of a multifunction in turn, and the registers that may stand at each.
 const INPUTS: [(&str, &str); 4] = [
     ("multiplier X input", "F0-F3"),
@@ -283,8 +307,14 @@ pub(crate) fn of(refusal: Refusal, names: &[u8]) -> VisaError {
         R::NoRoomForLabels(_) => does_not_fit("labels", plain::MOST_LABELS),
         R::NoRoomForJumps(_) => does_not_fit("jumps", plain::MOST_JUMPS),
         R::NoRoomForLoops(_) => does_not_fit("loops open at once", plain::MOST_LOOPS),
-        R::Row | R::Encoding | R::InvalidUniversalRegister(_) | R::Slot(_) | R::TooFewBytes(_) => {
-            unreachable!("rows of this crate's making don't meet it: {refusal}")
+        R::Row
+        | R::Encoding
+        | R::InvalidUniversalRegister(_)
+        | R::Slot(_)
+        | R::TooFewBytes(_)
+        | R::UnknownForm(_)
+        | R::NoRoomForRows(_) => {
+            unreachable!("a build of rows of this crate's making doesn't meet it: {refusal}")
         }
     }
 }

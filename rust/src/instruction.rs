@@ -195,4 +195,26 @@ impl Instruction {
             Self::StoreDm { src, address } => row::row(&[12, src.index().into(), address]),
         }
     }
+
+    /// The instruction of a kind and its fields.
+    #[rustfmt::skip]
+    pub(crate) fn of_fields(kind: u32, f: &[u32]) -> Option<Self> {
+        let data = row::data;
+        Some(match kind {
+            0 => Self::FloatAdd { dst: data(f[0])?, lhs: data(f[1])?, rhs: data(f[2])? },
+            1 => Self::FloatSub { dst: data(f[0])?, lhs: data(f[1])?, rhs: data(f[2])? },
+            2 => Self::FloatMul { dst: data(f[0])?, lhs: data(f[1])?, rhs: data(f[2])? },
+            3 => Self::FloatMin { dst: data(f[0])?, lhs: data(f[1])?, rhs: data(f[2])? },
+            4 => Self::FloatMax { dst: data(f[0])?, lhs: data(f[1])?, rhs: data(f[2])? },
+            5 => Self::FloatNeg { dst: data(f[0])?, src: data(f[1])? },
+            6 => Self::FloatAbs { dst: data(f[0])?, src: data(f[1])? },
+            7 => Self::IntegerSub { dst: data(f[0])?, lhs: data(f[1])?, rhs: data(f[2])? },
+            8 => Self::FloatPass { dst: data(f[0])?, src: data(f[1])? },
+            9 => Self::LoadImmediate { dst: data(f[0])?, value: f[1] },
+            10 => Self::Move { dst: data(f[0])?, src: data(f[1])? },
+            11 => Self::LoadDm { dst: data(f[0])?, address: f[1] },
+            12 => Self::StoreDm { src: data(f[0])?, address: f[1] },
+            _ => return None,
+        })
+    }
 }

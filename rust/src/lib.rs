@@ -22,13 +22,24 @@
 //!
 //! Which item an error is about, `qc_asm` doesn't say; [`VisaProgram::parcels_or_item`] does.
 //!
+//! Finished parcels come back as values, each with its place, by [`read_back`].
+//!
+//! ```
+//! use lhodrupesh::{Read, VisaInstruction};
+//!
+//! let read = lhodrupesh::read_back(&[0x1804, 0x0000, 0x38c4, 0x0001, 0x0001]).unwrap();
+//! assert_eq!(read[0].read, Read::Instruction(VisaInstruction::CJump { target: 0x38c4 }));
+//! assert_eq!((read.len(), read[2].place), (3, 4));
+//! ```
+//!
 //! Beside them stand two more ways to the same library. [`plain`] builds rows of seventeen numbers
 //! into buffers that the caller lends, allocates nothing, and refuses with a [`plain::Refused`]; [`c`]
 //! is the C interface itself, each function behind a safe one. In both, `build_plain` is the
 //! build by the library's second engine; all else is built by the first.
 //!
-//! Parcels, counts, bytes and refusals come from the library, which is proved; this crate, which
-//! turns values into rows and refusals into errors, is compared with `qc_asm` and not proved. The
+//! Parcels, counts, bytes, rows read back and refusals come from the library, which is proved; this
+//! crate, which turns values into rows and back and refusals into errors, is compared with `qc_asm` and
+//! not proved. The
 //! library is for x86-64 Linux; LINK_LIB names the folder that holds its `liblink.a` when the crate
 //! is built.
 
@@ -43,15 +54,17 @@ mod error;
 mod instruction;
 pub mod plain;
 mod program;
+mod read;
 mod refusal;
 mod register;
 mod row;
 mod visa;
 
 pub use compute::{AluOp, Compute, FloatMulAlu};
-pub use error::{Error, ItemError, VisaError};
+pub use error::{Error, ItemError, UnknownForm, VisaError};
 pub use instruction::{Instruction, INSTRUCTION_BYTES};
 pub use program::VisaProgram;
+pub use read::{read_back, Placed, Read};
 pub use register::{IndexRegister, ModifyRegister, Register, UniversalRegister};
 pub use visa::{
     Condition, DataAccess, Direction, LoopCount, LoopMode, MemoryAccess, Update, VisaInstruction,

@@ -287,6 +287,40 @@ pub fn bytes(parcels: &[u16], bytes: &mut [u8]) -> Result<usize, Refusal> {
     }
 }
 
+/// Reads finished parcels back into rows, with the place of each, and answers how many rows there are:
+/// they stand at the front of the lent rows, [`ROW`] numbers each, their places at the front of the lent
+/// places. A jump comes back as kind 28 with its offset, a loop start as kind 50, without the offset of
+/// its end; of two rows with the same parcels it is the one with the larger kind. A form is known by its
+/// parcels alone: a loop's end need not lie in them.
+///
+/// Refused, zeros stand where rows and places were written. All else is unchanged.
+///
+/// ```
+/// use lhodrupesh::plain::{self, Refusal};
+///
+/// // IntegerSubOne R1, a jump 3 parcels back unless equal, Nop.
+/// let parcels = [0x013e, 0x0002, 0xa110, 0x0720, 0x00ff, 0xfffd, 0x0001];
+/// let (mut rows, mut places) = ([[7; 17]; 4], [7; 4]);
+/// assert_eq!(plain::read_back(&parcels, rows.as_flattened_mut(), &mut places), Ok(3));
+/// assert_eq!(places, [0, 3, 6, 7]);
+/// assert_eq!(rows[0][..5], [32, 1, 25, 1, 1]);
+/// assert_eq!(rows[1][..4], [28, 1, -3_i32 as u32, 0]);
+/// assert_eq!((rows[2][0], rows[3][0]), (38, 7));
+///
+/// // The last parcel of the jump is missing; then there is room for two rows only.
+/// let cut = plain::read_back(&parcels[..5], rows.as_flattened_mut(), &mut places);
+/// assert_eq!((cut, rows[0], rows[1][0]), (Err(Refusal::UnknownForm(3)), [0; 17], 28));
+/// let full = plain::read_back(&parcels, rows.as_flattened_mut(), &mut places[..2]);
+/// assert_eq!((full, places), (Err(Refusal::NoRoomForRows(2)), [0, 0, 6, 7]));
+/// ```
+pub fn read_back(parcels: &[u16], rows: &mut [u32], places: &mut [u64]) -> Result<usize, Refusal> {
+    let read = c::read_back(parcels, rows, places);
+    match read.number {
+        0 => Ok(read.rows as usize),
+        _ => Err(Refusal::rows(&read)),
+    }
+}
+
 fn counted(told: c::Told) -> Result<usize, Refused> {
     match told.number {
         0 => Ok(told.count as usize),

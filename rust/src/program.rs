@@ -100,12 +100,8 @@ impl VisaProgram {
     /// assert_eq!(program.parcels(), Err(VisaError::UnclosedLoop));
     /// ```
     pub fn loop_begin(&mut self, count: LoopCount, mode: LoopMode) {
-        let [by_register, count] = match count {
-            LoopCount::Immediate(count) => [0, count.into()],
-            LoopCount::Register(register) => [1, register.code().into()],
-        };
         self.most_parcels += 3;
-        self.add(&row::row(&[50, by_register, count, mode as u32]));
+        self.add(&count.row(mode));
     }
 
     /// Ends the innermost open loop with the instruction before.

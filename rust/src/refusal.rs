@@ -2,7 +2,7 @@
 
 use std::fmt;
 
-use crate::c::{One, Told, Written};
+use crate::c::{One, Rows, Told, Written};
 
 /// A name as a range of the lent names.
 ///
@@ -122,6 +122,10 @@ pub enum Refusal {
     Slot(u32),
     /// 34: fewer bytes than twice the parcels; so many are lent.
     TooFewBytes(u64),
+    /// 35: the parcel at this place starts no known form, or one that is cut short.
+    UnknownForm(u64),
+    /// 36: no room for more rows read back, or for more places, than so many.
+    NoRoomForRows(u64),
 }
 
 /// A number, its two details, and a name: what the library answers in a refusal.
@@ -210,6 +214,8 @@ impl Refusal {
             Self::NoRoomForLoops(room) => (32, room.into(), 0),
             Self::Slot(row) => (33, row.into(), 0),
             Self::TooFewBytes(lent) => (34, lent as i64, 0),
+            Self::UnknownForm(place) => (35, place as i64, 0),
+            Self::NoRoomForRows(room) => (36, room as i64, 0),
         }
     }
 
@@ -251,6 +257,8 @@ impl Refusal {
             32 => Self::NoRoomForLoops(first as u32),
             33 => Self::Slot(first as u32),
             34 => Self::TooFewBytes(first as u64),
+            35 => Self::UnknownForm(first as u64),
+            36 => Self::NoRoomForRows(first as u64),
             _ => unreachable!("the library has no refusal {number}"),
         }
     }
@@ -263,6 +271,11 @@ impl Refusal {
     pub(crate) fn written(written: &Written) -> Self {
         let Written { number, first, .. } = *written;
         Self::of(Answer { number, first, second: 0, name: Name { start: 0, length: 0 } })
+    }
+
+    pub(crate) fn rows(rows: &Rows) -> Self {
+        let Rows { number, first, second, .. } = *rows;
+        Self::of(Answer { number, first, second, name: Name { start: 0, length: 0 } })
     }
 }
 
@@ -378,7 +391,7 @@ mod tests {
 
     #[test]
     fn every_number_has_its_refusal_and_back() {
-        for number in 1..=34 {
+        for number in 1..=36 {
             let name = Name { start: 5, length: 6 };
             let refusal = Refusal::of(Answer { number, first: 7, second: 9, name });
             assert_eq!(refusal.number(), number);
@@ -419,6 +432,8 @@ mod tests {
             (29, 0x100_0000),
             (33, 0x3f_ffff),
             (34, i64::MAX),
+            (35, i64::MAX),
+            (36, i64::MAX),
         ] {
             assert_eq!(detail(number, first), first, "refusal {number}");
         }

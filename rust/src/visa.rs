@@ -171,6 +171,26 @@ pub enum LoopCount {
     Register(UniversalRegister),
 }
 
+impl LoopCount {
+    /// The row of a loop start with this count.
+    pub(crate) fn row(self, mode: LoopMode) -> Row {
+        let [by_register, count] = match self {
+            Self::Immediate(count) => [0, count.into()],
+            Self::Register(register) => [1, code(register)],
+        };
+        row::row(&[50, by_register, count, mode as u32])
+    }
+
+    /// The count that a loop start's fields say.
+    pub(crate) fn of_fields(f: &[u32]) -> Option<Self> {
+        match f[0] {
+            0 => u16::try_from(f[1]).ok().map(Self::Immediate),
+            1 => row::universal(f[1]).map(Self::Register),
+            _ => None,
+        }
+    }
+}
+
 /// Where in the pipeline a loop's end is seen.
 ///
 /// ```
@@ -431,6 +451,93 @@ impl VisaInstruction {
             V::Nop => row::row(&[38]),
             V::WideNop => row::row(&[39]),
         }
+    }
+
+    /// The instruction that a row says, whether it encodes or not; nothing for a row of another item and
+    /// for one that the library refuses with 2, 4, 17, 18 or 19 of its compute. `qc_asm` has nothing of
+    /// this name.
+    ///
+    /// ```
+    /// use lhodrupesh::VisaInstruction;
+    ///
+    /// let call = VisaInstruction::CJump { target: 7 };
+    /// assert_eq!(VisaInstruction::from_row(&call.row()), Some(call));
+    /// let label = [48, 0, 0, 0, 0, 0, 0, 0, 0, 0, 0, 0, 0, 0, 0, 0, 0];
+    /// assert_eq!(VisaInstruction::from_row(&label), None);
+    /// assert_eq!(VisaInstruction::from_row(&[38; 17]), None);
+    /// ```
+    pub fn from_row(row: &[u32; plain::ROW]) -> Option<Self> {
+        let instruction = Self::of_fields(row[0], &row[1..])?;
+        (instruction.row() == *row).then_some(instruction)
+    }
+
+    /// The instruction of a kind and its fields. What stands behind them isn't looked at.
+    #[rustfmt::skip]
+    pub(crate) fn of_fields(kind: u32, f: &[u32]) -> Option<Self> {
+        use row::{index, modify, one_of, universal};
+        use VisaInstruction as V;
+        Some(match kind {
+            0..=12 => V::Scalar(Instruction::of_fields(kind, f)?),
+            16 => V::Transfer { dst: universal(f[0])?, src: universal(f[1])? },
+            17 => V::LoadImmediate { dst: universal(f[0])?, value: f[1] },
+            18 => V::ModifyIndex { index: index(f[0])?, offset: f[1] as i32 },
+            19 => V::LoadDmPostModify { dst: universal(f[0])?, index: index(f[1])?, modifier: modify(f[2])? },
+            20 => V::StoreDmPostModify { src: universal(f[0])?, index: index(f[1])?, modifier: modify(f[2])? },
+            21 => V::LoadDmPreModify { dst: universal(f[0])?, index: index(f[1])?, modifier: modify(f[2])? },
+            22 => V::StoreDmPreModify { src: universal(f[0])?, index: index(f[1])?, modifier: modify(f[2])? },
+            23 => V::LoadDmOffset { dst: universal(f[0])?, index: index(f[1])?, offset: f[2] as i32 },
+            24 => V::StoreDmOffset { src: universal(f[0])?, index: index(f[1])?, offset: f[2] as i32 },
+            25 => V::IntegerSubOne { dst: row::data(f[0])?, src: row::data(f[1])? },
+            26 => V::IntegerPass { dst: row::data(f[0])?, src: row::data(f[1])? },
+            27 => V::IntegerCompareUnsigned { lhs: row::data(f[0])?, rhs: row::data(f[1])? },
+            28 => V::JumpRelative { condition: one_of(&CONDITIONS, f[0])?, offset: f[1] as i32, delayed: one_of(&[false, true], f[2])? },
+            29 => V::CJump { target: f[0] },
+            30 => V::PushImmediate { value: f[0] },
+            31 => V::LeafReturn,
+            32 => V::Compute(Compute::of_places(f)??),
+            33 => V::DualMove { compute: Compute::of_places(f)?, dm: DataAccess::of_fields(&f[8..])?, pm: DataAccess::of_fields(&f[12..])? },
+            34 => V::MemoryMove { compute: Compute::of_places(f)?, access: MemoryAccess::of_fields(&f[8..])? },
+            35 => V::StoreImmediate { index: index(f[0])?, modifier: modify(f[1])?, value: f[2] },
+            36 => V::BitSetMode1 { mask: f[0] },
+            37 => V::BitClearMode1 { mask: f[0] },
+            38 => V::Nop,
+            39 => V::WideNop,
+            _ => return None,
+        })
+    }
+}
+
+/// The conditions in declaration order.
+const CONDITIONS: [Condition; 7] = [
+    Condition::Eq,
+    Condition::Ne,
+    Condition::Sv,
+    Condition::Sz,
+    Condition::NotSv,
+    Condition::Always,
+    Condition::UnsignedGt,
+];
+
+impl DataAccess {
+    fn of_fields(f: &[u32]) -> Option<Self> {
+        Some(Self {
+            direction: row::one_of(&[Direction::Load, Direction::Store], f[0])?,
+            register: row::data(f[1])?,
+            index: row::index(f[2])?,
+            modifier: row::modify(f[3])?,
+        })
+    }
+}
+
+impl MemoryAccess {
+    fn of_fields(f: &[u32]) -> Option<Self> {
+        Some(Self {
+            direction: row::one_of(&[Direction::Load, Direction::Store], f[0])?,
+            register: row::universal(f[1])?,
+            index: row::index(f[2])?,
+            modifier: row::modify(f[3])?,
+            update: row::one_of(&[Update::PostModify, Update::PreModify], f[4])?,
+        })
     }
 }
 

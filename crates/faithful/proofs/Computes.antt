@@ -38,7 +38,7 @@ abbrev pub row8 : ℕ → ℕ → ℕ → ℕ → ℕ → ℕ → ℕ → ℕ �
 row8 k a b c d e f g h qs = k ∷ a ∷ b ∷ c ∷ d ∷ e ∷ f ∷ g ∷ h ∷ qs
 
 -- the three field places of a single
-single-inside :
+pub single-inside :
     (l : List ℕ) (a b c d e : ℕ) (vs : List ℕ) → Below (filled 8 (form ∷ word ∷ filled 3 l)) (a ∷ b ∷ c ∷ d ∷ e ∷ vs) → Below (filled 3 l) (c ∷ d ∷ e ∷ [])
 single-inside [] a b c d e vs t = t .1 .1 .0 & t .1 .1 .1 .0 & t .1 .1 .1 .1 .0 & tt
 single-inside (x ∷ []) a b c d e vs t = t .1 .1 .0 & t .1 .1 .1 .0 & t .1 .1 .1 .1 .0 & tt
@@ -46,10 +46,10 @@ single-inside (x ∷ y ∷ []) a b c d e vs t = t .1 .1 .0 & t .1 .1 .1 .0 & t .
 single-inside (x ∷ y ∷ z ∷ l) a b c d e vs t = t .1 .1 .0 & t .1 .1 .1 .0 & t .1 .1 .1 .1 .0 & tt
 
 -- the 23 bits of a single, for fields within its kind's bounds
-abbrev SingleKind : ℕ → Type 0
+abbrev pub SingleKind : ℕ → Type 0
 SingleKind k = (a b c : ℕ) → Inside k a b c → Faithful 23 (singleFields k a b c)
 
-each-single : Each SingleKind twelve
+pub each-single : Each SingleKind twelve
 unfolding fields layoutOf instructionOf scalars others
 each-single =
     (λ a b c h. faithful 23 _ (omega arith) (omega arith)) &  -- FloatAdd
@@ -101,7 +101,7 @@ module _ (k a b c d e f g h : ℕ) (qs : List ℕ) (o : OptionalCompute) where
   abbrev place : List ℕ
   place = row8 k a b c d e f g h qs
 
-  made-beside : (m : Made) → rows.beside m ≡ beside.Compute o → (x : Compute) × (m ≡ made.Made x) × (o ≡ Held x)
+  pub made-beside : (m : Made) → rows.beside m ≡ beside.Compute o → (x : Compute) × (m ≡ made.Made x) × (o ≡ Held x)
   made-beside (made.Made x) q = (x, refl, let y : o ≡ Held x = cc in y)
   made-beside (made.Refused r) q = let z : _≡_ {A = ℕ} 0 1 = cc in absurd (omega arith)
 

@@ -23,7 +23,7 @@ use Rattle.encode.proofs.Laid.{laid-parcels}
 use Rattle.encode.proofs.Fitting.{instruction-faithful}
 use Rattle.faithful.proofs.Computes.{Opens}
 
-opened-pack : (xs fs : List Field) (n : ℕ) → n ≡ pack fs → pack (xs ++ whole n) ≡ pack (xs ++ fs)
+pub opened-pack : (xs fs : List Field) (n : ℕ) → n ≡ pack fs → pack (xs ++ whole n) ≡ pack (xs ++ fs)
 opened-pack [] fs n e = omega (arith, e)
 opened-pack (fixed hi lo v ∷ xs) fs n e = ap (λ (k : ℕ). v * 2 ^ lo + k) (opened-pack xs fs n e)
 opened-pack (operand hi lo v ∷ xs) fs n e = ap (λ (k : ℕ). v * 2 ^ lo + k) (opened-pack xs fs n e)

@@ -34,7 +34,7 @@ use Rattle.rows.proofs.Kept.{within-bounds}
 use Rattle.faithful.proofs.Lines.{_&_, Inside}
 
 -- a row that is read is within its bounds
-read-good : (c : Verdict) (r : Read) (i : Item) → after c r ≡ read.Item i → (c ≡ Good) × (r ≡ read.Item i)
+pub read-good : (c : Verdict) (r : Read) (i : Item) → after c r ≡ read.Item i → (c ≡ Good) × (r ≡ read.Item i)
 read-good Good r i e = (refl, e)
 read-good (Refused x) r i e = let z : _≡_ {A = ℕ} 0 1 = cc in absurd (omega arith)
 
@@ -85,7 +85,7 @@ known k a b c vs names v e =
 
 -- the three fields of a kind without a compute lie within the kind's bounds
 module _ (k a b c : ℕ) (vs : List ℕ) (h32 : eqb k 32 ≡ false) (h33 : eqb k 33 ≡ false) (h34 : eqb k 34 ≡ false) (h50 : eqb k 50 ≡ false) where
-  line-bounds : Below (boundsOf (k ∷ a ∷ b ∷ c ∷ vs)) (a ∷ b ∷ c ∷ vs) → Below (filled 16 (lookup k fields (never ∷ []))) (a ∷ b ∷ c ∷ vs)
+  pub line-bounds : Below (boundsOf (k ∷ a ∷ b ∷ c ∷ vs)) (a ∷ b ∷ c ∷ vs) → Below (filled 16 (lookup k fields (never ∷ []))) (a ∷ b ∷ c ∷ vs)
   unfolding boundsOf
   line-bounds h = rw (h32, h33, h34, h50) at h
 

@@ -42,13 +42,13 @@ use Rattle.faithful.proofs.Opened.{plain-spells, compute-spells, dual-s
 use Rattle.faithful.proofs.Read.{Which, is-plain, is-compute, is-dual, is-memory, known, inside, loop-ranged}
 
 -- ---- bounds of a part
-below-take : (n : ℕ) (bs vs : List ℕ) → Below bs vs → Below (take n bs) vs
+pub below-take : (n : ℕ) (bs vs : List ℕ) → Below bs vs → Below (take n bs) vs
 below-take zero bs vs h = tt
 below-take (suc n) [] vs h = tt
 below-take (suc n) (b ∷ bs) [] h = tt
 below-take (suc n) (b ∷ bs) (v ∷ vs) h = (h .0, below-take n bs vs (h .1))
 
-below-drop : (n : ℕ) (bs vs : List ℕ) → Below bs vs → Below (drop n bs) (drop n vs)
+pub below-drop : (n : ℕ) (bs vs : List ℕ) → Below bs vs → Below (drop n bs) (drop n vs)
 below-drop zero bs vs h = h
 below-drop (suc n) [] vs h = tt
 below-drop (suc n) (b ∷ bs) [] h = none (drop n bs)
@@ -59,23 +59,23 @@ below-drop (suc n) (b ∷ bs) [] h = none (drop n bs)
 below-drop (suc n) (b ∷ bs) (v ∷ vs) h = below-drop n bs vs (h .1)
 
 -- ---- the items of a compute
-made-is : (m : Made) (v : VisaInstruction) → computeItem m ≡ read.Item (item.Instruction v) → (x : Compute) × (m ≡ made.Made x) × (v ≡ Visa.Compute x)
+pub made-is : (m : Made) (v : VisaInstruction) → computeItem m ≡ read.Item (item.Instruction v) → (x : Compute) × (m ≡ made.Made x) × (v ≡ Visa.Compute x)
 made-is (made.Made x) v e = (x, refl, let y : v ≡ Visa.Compute x = cc in y)
 made-is (made.Refused r) v e = let z : _≡_ {A = ℕ} 0 1 = cc in absurd (omega arith)
 
-dual-is : (dm pm : DataAccess) (b : Beside) (v : VisaInstruction) → dualItem dm pm b ≡ read.Item (item.Instruction v) → (o : OptionalCompute) × (b ≡ beside.Compute o) × (v ≡ Visa.DualMove o dm pm)
+pub dual-is : (dm pm : DataAccess) (b : Beside) (v : VisaInstruction) → dualItem dm pm b ≡ read.Item (item.Instruction v) → (o : OptionalCompute) × (b ≡ beside.Compute o) × (v ≡ Visa.DualMove o dm pm)
 dual-is dm pm (beside.Compute o) v e = (o, refl, let y : v ≡ Visa.DualMove o dm pm = cc in y)
 dual-is dm pm (beside.Refused r) v e = let z : _≡_ {A = ℕ} 0 1 = cc in absurd (omega arith)
 
-memory-is : (access : MemoryAccess) (b : Beside) (v : VisaInstruction) → memoryItem access b ≡ read.Item (item.Instruction v) → (o : OptionalCompute) × (b ≡ beside.Compute o) × (v ≡ Visa.MemoryMove o access)
+pub memory-is : (access : MemoryAccess) (b : Beside) (v : VisaInstruction) → memoryItem access b ≡ read.Item (item.Instruction v) → (o : OptionalCompute) × (b ≡ beside.Compute o) × (v ≡ Visa.MemoryMove o access)
 memory-is access (beside.Compute o) v e = (o, refl, let y : v ≡ Visa.MemoryMove o access = cc in y)
 memory-is access (beside.Refused r) v e = let z : _≡_ {A = ℕ} 0 1 = cc in absurd (omega arith)
 
-data-ranged : (a b c d : ℕ) → b < 16 → c < 16 → d < 16 → RangedData (dataAccessOf a b c d)
+pub data-ranged : (a b c d : ℕ) → b < 16 → c < 16 → d < 16 → RangedData (dataAccessOf a b c d)
 unfolding dataAccessOf
 data-ranged a b c d hb hc hd = omega arith
 
-memory-ranged : (a b c d e : ℕ) → b < 0x60 → c < 16 → d < 16 → RangedMemory (memoryAccessOf a b c d e)
+pub memory-ranged : (a b c d e : ℕ) → b < 0x60 → c < 16 → d < 16 → RangedMemory (memoryAccessOf a b c d e)
 unfolding memoryAccessOf
 memory-ranged a b c d e hb hc hd = omega arith
 
@@ -100,7 +100,7 @@ module _ (a b c d e f g h p q r s t u x y : ℕ) (v : VisaInstruction) where
   abbrev after : List ℕ
   after = a ∷ b ∷ c ∷ d ∷ e ∷ f ∷ g ∷ h ∷ qs
 
-  nonzero : Below (compute never (row 32)) after → eqb a 0 ≡ false
+  pub nonzero : Below (compute never (row 32)) after → eqb a 0 ≡ false
   unfolding compute
   nonzero w = go (eqb a 0) refl w
     where
@@ -118,10 +118,10 @@ module _ (a b c d e f g h p q r s t u x y : ℕ) (v : VisaInstruction) where
 
   -- the first eight places and the others, in kinds 33 and 34
   module _ (k : ℕ) (l : List ℕ) (w : Below (take 16 (compute form (row k) ++ (l ++ replicate 16 spare))) after) where
-    front8 : Below (compute form (row k)) after
+    pub front8 : Below (compute form (row k)) after
     front8 = rw (front-compute form (row k) (l ++ replicate 16 spare)) at (below-take 8 (take 16 (compute form (row k) ++ (l ++ replicate 16 spare))) after w)
 
-    back8 : Below (filled 8 l) qs
+    pub back8 : Below (filled 8 l) qs
     back8 = rw (back-compute form (row k) l) at (below-drop 8 (take 16 (compute form (row k) ++ (l ++ replicate 16 spare))) after w)
 
   dual-row :
@@ -163,11 +163,11 @@ module _ (a b c d e f g h p q r s t u x y : ℕ) (v : VisaInstruction) where
       go w (is-memory j z) = rw j (memory-row (rw j at w) (rw j at z) good)
 
 -- ---- a row, number by number
-abbrev spread : ℕ → (ℕ → ℕ) → List ℕ
+abbrev pub spread : ℕ → (ℕ → ℕ) → List ℕ
 spread zero f = []
 spread (suc n) f = f 0 ∷ spread n (λ i. f (suc i))
 
-spread-same : (n : ℕ) (l : List ℕ) → length l ≡ n → l ≡ spread n (at l)
+pub spread-same : (n : ℕ) (l : List ℕ) → length l ≡ n → l ≡ spread n (at l)
 spread-same zero [] e = refl
 spread-same zero (x ∷ l) e = absurd (omega arith)
 spread-same (suc n) [] e = absurd (omega arith)

@@ -71,7 +71,7 @@ again top hi lo word r t a e =
     ∙ ap (λ (n : ℕ). word % 2 ^ n) (omega arith)
 
 -- so a word that reads as the fields' numbers is their pack
-rebuild : (top : ℕ) (fs : List Field) (word : ℕ) → Tiles top fs → reads fs word ≡ values fs → pack fs ≡ word % 2 ^ top
+pub rebuild : (top : ℕ) (fs : List Field) (word : ℕ) → Tiles top fs → reads fs word ≡ values fs → pack fs ≡ word % 2 ^ top
 rebuild top [] word t e = rw t (omega arith)
 rebuild top (fixed hi lo v ∷ fs) word t e =
     let first : field hi lo word ≡ v = cc in

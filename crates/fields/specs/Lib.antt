@@ -1,3 +1,4 @@
 pub mod Pack
 pub mod Parcels
 pub mod Faithful
+pub mod Matching

@@ -38,6 +38,12 @@ use Rattle.slots.proofs.Numbers.{check-zero, check-numbers}
 use Rattle.parcel_bytes.specs.declared.ToldBytes.{ToldBytes}
 use Rattle.parcel_bytes.specs.Bytes.{Writes}
 use Rattle.parcel_bytes.proofs.Single as bytes
+use Rattle.rows.specs.Rows.{rowWidth}
+use Rattle.reading.specs.declared.ToldRows.{ToldRows}
+use Rattle.reading.specs.Back.{ReadsBack}
+use Rattle.reading.specs.All.{ReadsAll}
+use Rattle.reading.proofs.Numbers as numbers
+use Rattle.reading.proofs.Single as reading
 use Rattle.link.specs.declared.One.{One}
 use Rattle.link.specs.One.{oneOf, toldIn}
 
@@ -126,6 +132,25 @@ module _ (parcels lent : List ℕ) {t : ToldBytes} {left : List ℕ} (promise : 
 
   pub written-no-row : t .third ≡ pos 0
   written-no-row = bytes.no-row parcels lent promise
+
+-- ---- lhodrupesh_read_back
+module _ (parcels rows places : List ℕ) {t : ToldRows} {leftRows leftPlaces : List ℕ} (promise : ReadsBack parcels rows places t leftRows leftPlaces) where
+  pub no-second-read : {s : ToldRows} {otherRows otherPlaces : List ℕ} → ReadsBack parcels rows places s otherRows otherPlaces → (t ≡ s) × (leftRows ≡ otherRows) × (leftPlaces ≡ otherPlaces)
+  no-second-read other = reading.no-second-answer promise other
+
+  -- number 0 exactly where the parcels can be read to their end in the room lent
+  pub read-zero : (t .number ≡ 0) ↔ ReadsAll parcels rows places
+  read-zero = reading.read-zero promise
+
+  pub read-numbers : (t .number ≡ 0) ⊎ (t .number ≡ 35) ⊎ (t .number ≡ 36)
+  read-numbers = numbers.read-numbers promise
+
+  -- the rows counted, and their places, lie in the lent ones
+  pub read-count : (t .rows * rowWidth ≤ length rows) × (t .rows ≤ length places)
+  read-count = numbers.read-count promise
+
+  pub read-no-row : t .third ≡ pos 0
+  read-no-row = numbers.read-no-row promise
 
 -- ---- lhodrupesh_build_plain: its contract is lhodrupesh_build's, so what is said of that is said of it
 -- THE TWO ENGINES AGREE on every input: the quick one's answer and every lent place, and the plain one's

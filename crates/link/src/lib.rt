@@ -5,11 +5,13 @@ ghost use Rattle.instruction.specs.Instruction.{Encodes};
 ghost use Rattle.counts.specs.Counts.{Counts};
 ghost use Rattle.slots.specs.Slots.{Checks};
 ghost use Rattle.parcel_bytes.specs.Bytes.{Writes};
+ghost use Rattle.reading.specs.Back.{ReadsBack};
 ghost use Rattle.link.specs.One.{oneOf, toldIn};
 use counts::Counting;
 use instruction::Parcels;
 use parcel_bytes::ToldBytes;
 use places::OpenLoop;
+use reading::ToldRows;
 use refusals::Told;
 
 // One instruction's answer: 0 and the count, or a refusal's number and details; and the six places.
@@ -121,4 +123,16 @@ pub extern "C" fn lhodrupesh_bytes(parcels: &[u16], bytes: &mut [u8]) -> ToldByt
     ensures { λ r. ⌜ Writes (now (parcels .entry)) (now (bytes .entry)) r (now (bytes .exit)) ⌝ }
 {
     parcel_bytes::parcels_to_bytes(parcels, bytes).told()
+}
+
+// Parcels read back into rows: its answer in numbers, and what it leaves in the lent rows and places.
+#[no_mangle]
+pub extern "C" fn lhodrupesh_read_back(
+    parcels: &[u16],
+    rows: &mut [u32],
+    places: &mut [u64],
+) -> ToldRows
+    ensures { λ r. ⌜ ReadsBack (now (parcels .entry)) (now (rows .entry)) (now (places .entry)) r (now (rows .exit)) (now (places .exit)) ⌝ }
+{
+    reading::read_back(parcels, rows, places).told()
 }

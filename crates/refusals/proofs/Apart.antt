@@ -1,16 +1,16 @@
 -- The numbers tell refusals apart: the refusals in their order, with the told details, hold at the told number the refusal that tells it.
 use mathlib.Core.Path.{_≡_, refl, sym, ap, subst, _∙_}
-use mathlib.Core.Bool.{false, true≢false, cond}
+use mathlib.Core.Bool.{true, false, true≢false, cond}
 use mathlib.Core.List.{List, [], _∷_}
 use Prim.Native.Nat.{ℕ, _-_, _<_}
 use native.Mathlib.Omega.{arith}
 use lib.ListN.{getD}
 use lib.IntN.{natAbs}
-use lib.Dec.{eqb}
-use borrow.Author.Tests.{ne-eqb}
+use lib.Dec.{eqb, ltb}
+use borrow.Author.Tests.{ne-eqb, lt-ltb}
 use Rattle.refusals.specs.declared.Told.{Told}
 use Rattle.refusals.specs.declared.Refusal.{Refusal}
-use Rattle.refusals.specs.declared.Refusal.the-variants.{RowSlice, Row, Encoding, InvalidUniversalRegister, InvalidDmIndex, InvalidDmModifier, UnsupportedPostModifyRegister, Dag1StoreSource, BranchOutOfRange, CallTargetOutOfRange, DuplicateLabel, UndefinedLabel, InvalidPmIndex, InvalidPmModifier, MixedDag, SameDagRegister, NotACompute, MultifunctionOperand, DuplicateDestination, LoopCountZero, LoopOutOfRange, EmptyLoop, UnclosedLoop, UnmatchedLoopEnd, SharedLoopEnd, LoopTailNotFullWidth, BranchInLoop, LabelInLoop, NoRoomForParcels, NoRoomForLabels, NoRoomForJumps, NoRoomForLoops, BrokenSlot, NoRoomForBytes}
+use Rattle.refusals.specs.declared.Refusal.the-variants.{RowSlice, Row, Encoding, InvalidUniversalRegister, InvalidDmIndex, InvalidDmModifier, UnsupportedPostModifyRegister, Dag1StoreSource, BranchOutOfRange, CallTargetOutOfRange, DuplicateLabel, UndefinedLabel, InvalidPmIndex, InvalidPmModifier, MixedDag, SameDagRegister, NotACompute, MultifunctionOperand, DuplicateDestination, LoopCountZero, LoopOutOfRange, EmptyLoop, UnclosedLoop, UnmatchedLoopEnd, SharedLoopEnd, LoopTailNotFullWidth, BranchInLoop, LabelInLoop, NoRoomForParcels, NoRoomForLabels, NoRoomForJumps, NoRoomForLoops, BrokenSlot, NoRoomForBytes, UnknownForm, NoRoomForRows}
 use Rattle.refusals.specs.declared.Answer.{Answer}
 use Rattle.refusals.specs.declared.Answer.the-variants as answer
 use Rattle.refusals.specs.Numbers.{toldOf, inRow, answered}
@@ -52,13 +52,15 @@ refusals t =
     ∷ NoRoomForLoops (natAbs (t .first))
     ∷ BrokenSlot (natAbs (t .first))
     ∷ NoRoomForBytes (natAbs (t .first))
+    ∷ UnknownForm (natAbs (t .first))
+    ∷ NoRoomForRows (natAbs (t .first))
     ∷ []
 
--- the refusal that is told; 34 up to the largest detail
+-- the refusal that is told; 34 to 36 up to the largest detail
 abbrev pub refusalFrom : Told → Refusal
 refusalFrom t = getD (refusals t) (t .number - 1) RowSlice
 
-pub refusal-told : (r : Refusal) → eqb (toldOf r .number) 34 ≡ false → refusalFrom (toldOf r) ≡ r
+pub refusal-told : (r : Refusal) → ltb (toldOf r .number) 34 ≡ true → refusalFrom (toldOf r) ≡ r
 refusal-told RowSlice e = refl
 refusal-told Row e = refl
 refusal-told Encoding e = refl
@@ -92,10 +94,12 @@ refusal-told (NoRoomForLabels a) e = refl
 refusal-told (NoRoomForJumps a) e = refl
 refusal-told (NoRoomForLoops a) e = refl
 refusal-told (BrokenSlot a) e = refl
-refusal-told (NoRoomForBytes a) e = absurd (true≢false e)
+refusal-told (NoRoomForBytes a) e = absurd (true≢false (sym e))
+refusal-told (UnknownForm a) e = absurd (true≢false (sym e))
+refusal-told (NoRoomForRows a) e = absurd (true≢false (sym e))
 
-below : (r : Refusal) → toldOf r .number < 34 → eqb (toldOf r .number) 34 ≡ false
-below r h = ne-eqb (toldOf r .number) 34 (λ (e : toldOf r .number ≡ 34). omega arith)
+below : (r : Refusal) → toldOf r .number < 34 → ltb (toldOf r .number) 34 ≡ true
+below r h = lt-ltb (toldOf r .number) 34 h
 
 over-zero : (r : Refusal) → eqb (toldOf r .number) 0 ≡ false
 over-zero r = let h = numbered r .over in ne-eqb (toldOf r .number) 0 (λ (e : toldOf r .number ≡ 0). omega arith)
@@ -111,7 +115,7 @@ pub answer-told : (a : Answer) → answered a .number < 34 → answerFrom (answe
 answer-told (answer.Accepted n) h = refl
 answer-told (answer.Refused r row) h = rw (over-zero r) (ap (λ (r : Refusal). answer.Refused r row) (told-alone r row ∙ refusal-told r (below r h)))
 
--- two refusals, or two answers, that tell the same are the same; 34 apart, whose detail has a largest value
+-- two refusals, or two answers, that tell the same are the same; 34 to 36 apart, whose detail has a largest value
 pub refusals-apart : (r r′ : Refusal) → toldOf r .number < 34 → toldOf r ≡ toldOf r′ → r ≡ r′
 refusals-apart r r′ h e =
     sym (refusal-told r (below r h))

@@ -8,7 +8,7 @@ use lib.IntN.{ℤ, pos}
 use lib.Dec.{T, ltb, leb, ltb→lt, leb→le}
 use Rattle.refusals.specs.declared.Told.{Told}
 use Rattle.refusals.specs.declared.Refusal.{Refusal}
-use Rattle.refusals.specs.declared.Refusal.the-variants.{RowSlice, Row, Encoding, InvalidUniversalRegister, InvalidDmIndex, InvalidDmModifier, UnsupportedPostModifyRegister, Dag1StoreSource, BranchOutOfRange, CallTargetOutOfRange, DuplicateLabel, UndefinedLabel, InvalidPmIndex, InvalidPmModifier, MixedDag, SameDagRegister, NotACompute, MultifunctionOperand, DuplicateDestination, LoopCountZero, LoopOutOfRange, EmptyLoop, UnclosedLoop, UnmatchedLoopEnd, SharedLoopEnd, LoopTailNotFullWidth, BranchInLoop, LabelInLoop, NoRoomForParcels, NoRoomForLabels, NoRoomForJumps, NoRoomForLoops, BrokenSlot, NoRoomForBytes}
+use Rattle.refusals.specs.declared.Refusal.the-variants.{RowSlice, Row, Encoding, InvalidUniversalRegister, InvalidDmIndex, InvalidDmModifier, UnsupportedPostModifyRegister, Dag1StoreSource, BranchOutOfRange, CallTargetOutOfRange, DuplicateLabel, UndefinedLabel, InvalidPmIndex, InvalidPmModifier, MixedDag, SameDagRegister, NotACompute, MultifunctionOperand, DuplicateDestination, LoopCountZero, LoopOutOfRange, EmptyLoop, UnclosedLoop, UnmatchedLoopEnd, SharedLoopEnd, LoopTailNotFullWidth, BranchInLoop, LabelInLoop, NoRoomForParcels, NoRoomForLabels, NoRoomForJumps, NoRoomForLoops, BrokenSlot, NoRoomForBytes, UnknownForm, NoRoomForRows}
 use Rattle.refusals.specs.declared.Answer.{Answer}
 use Rattle.refusals.specs.declared.Answer.the-variants as answer
 use Rattle.refusals.specs.declared.Verdict.{Verdict}
@@ -21,17 +21,17 @@ checked v = answered (answerIn 0 v 0)
 
 pub record Numbered (t : Told) : Type 0 where
   pub over : 0 < t .number
-  pub last : t .number ≤ 34
+  pub last : t .number ≤ 36
   pub uncounted : t .count ≡ 0
   pub rowless : t .third ≡ pos 0
   pub unnamed : among naming t ≡ false → (t .start ≡ 0) × (t .length ≡ 0)
 
 -- with details, and with a name
-detailed : {n : ℕ} {a b : ℤ} → T (ltb 0 n) → T (leb n 34) → Numbered (two n a b)
-detailed {n = n} h k = record { over = ltb→lt 0 n h; last = leb→le n 34 k; uncounted = refl; rowless = refl; unnamed = λ f. (refl, refl) }
+detailed : {n : ℕ} {a b : ℤ} → T (ltb 0 n) → T (leb n 36) → Numbered (two n a b)
+detailed {n = n} h k = record { over = ltb→lt 0 n h; last = leb→le n 36 k; uncounted = refl; rowless = refl; unnamed = λ f. (refl, refl) }
 
-named-so : {n a b : ℕ} → T (ltb 0 n) → T (leb n 34) → among naming (named n a b) ≡ true → Numbered (named n a b)
-named-so {n = n} h k e = record { over = ltb→lt 0 n h; last = leb→le n 34 k; uncounted = refl; rowless = refl; unnamed = λ f. absurd (true≢false (sym e ∙ f)) }
+named-so : {n a b : ℕ} → T (ltb 0 n) → T (leb n 36) → among naming (named n a b) ≡ true → Numbered (named n a b)
+named-so {n = n} h k e = record { over = ltb→lt 0 n h; last = leb→le n 36 k; uncounted = refl; rowless = refl; unnamed = λ f. absurd (true≢false (sym e ∙ f)) }
 
 pub numbered : (r : Refusal) → Numbered (toldOf r)
 numbered RowSlice = detailed tt tt
@@ -68,6 +68,8 @@ numbered (NoRoomForJumps a) = detailed tt tt
 numbered (NoRoomForLoops a) = detailed tt tt
 numbered (BrokenSlot a) = detailed tt tt
 numbered (NoRoomForBytes a) = detailed tt tt
+numbered (UnknownForm a) = detailed tt tt
+numbered (NoRoomForRows a) = detailed tt tt
 
 -- the table names no row: without its row an answer tells what the table says
 pub without-row : (row : ℕ) (r : Refusal) → inRow 0 (inRow row (toldOf r)) ≡ toldOf r

@@ -12,7 +12,7 @@ use Rattle.refusals.specs.declared.Verdict.{Verdict}
 use Rattle.refusals.specs.declared.Verdict.the-variants as verdict
 use Rattle.refusals.specs.declared.Judged.{Judged}
 use Rattle.refusals.specs.declared.Refusal.{Refusal}
-use Rattle.refusals.specs.declared.Refusal.the-variants.{RowSlice, Row, Encoding, InvalidUniversalRegister, InvalidDmIndex, InvalidDmModifier, UnsupportedPostModifyRegister, Dag1StoreSource, BranchOutOfRange, CallTargetOutOfRange, DuplicateLabel, UndefinedLabel, InvalidPmIndex, InvalidPmModifier, MixedDag, SameDagRegister, NotACompute, MultifunctionOperand, DuplicateDestination, LoopCountZero, LoopOutOfRange, EmptyLoop, UnclosedLoop, UnmatchedLoopEnd, SharedLoopEnd, LoopTailNotFullWidth, BranchInLoop, LabelInLoop, NoRoomForParcels, NoRoomForLabels, NoRoomForJumps, NoRoomForLoops, BrokenSlot, NoRoomForBytes}
+use Rattle.refusals.specs.declared.Refusal.the-variants.{RowSlice, Row, Encoding, InvalidUniversalRegister, InvalidDmIndex, InvalidDmModifier, UnsupportedPostModifyRegister, Dag1StoreSource, BranchOutOfRange, CallTargetOutOfRange, DuplicateLabel, UndefinedLabel, InvalidPmIndex, InvalidPmModifier, MixedDag, SameDagRegister, NotACompute, MultifunctionOperand, DuplicateDestination, LoopCountZero, LoopOutOfRange, EmptyLoop, UnclosedLoop, UnmatchedLoopEnd, SharedLoopEnd, LoopTailNotFullWidth, BranchInLoop, LabelInLoop, NoRoomForParcels, NoRoomForLabels, NoRoomForJumps, NoRoomForLoops, BrokenSlot, NoRoomForBytes, UnknownForm, NoRoomForRows}
 
 -- a number alone, with one detail, with two, with a name
 abbrev pub alone : ℕ → Told
@@ -31,7 +31,7 @@ named n a b = record { number = n; count = 0; first = pos 0; second = pos 0; thi
 abbrev pub counted : ℕ → Told
 counted n = record { number = 0; count = n; first = pos 0; second = pos 0; third = pos 0; start = 0; length = 0 }
 
--- the largest detail; no slice has more bytes
+-- the largest detail; no slice has more bytes, parcels or rows
 abbrev pub most : ℕ
 most = 0x7fff_ffff_ffff_ffff
 
@@ -71,6 +71,8 @@ toldOf (NoRoomForJumps room) = one 31 (pos room)
 toldOf (NoRoomForLoops room) = one 32 (pos room)
 toldOf (BrokenSlot row) = one 33 (pos row)
 toldOf (NoRoomForBytes bytes) = one 34 (pos (min bytes most))
+toldOf (UnknownForm place) = one 35 (pos (min place most))
+toldOf (NoRoomForRows room) = one 36 (pos (min room most))
 
 -- the answer where a count was made, or a refusal that names a row
 abbrev pub answerIn : ℕ → Verdict → ℕ → Answer

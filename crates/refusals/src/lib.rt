@@ -4,7 +4,7 @@ ghost use Prim.Native.Nat.{min};
 ghost use lib.IntN.{pos};
 ghost use Rattle.refusals.specs.Numbers.{alone, one, two, named, counted, most, toldOf, inRow, answered, answerOf};
 
-// The refusals of document 01, in its order, under the Rust's names where it has one.
+// The refusals of documents 01 and 02, in their order, under the Rust's names where it has one.
 pub enum Refusal {
     // The row slice is no whole number of rows, or over the limit.
     RowSlice,
@@ -49,6 +49,10 @@ pub enum Refusal {
     BrokenSlot(u32),
     // The bytes that were lent.
     NoRoomForBytes(u64),
+    // The parcel that starts no known form.
+    UnknownForm(u64),
+    // No room for rows read back, with the smaller room.
+    NoRoomForRows(u64),
 }
 
 // Whether something is in order, or why it is refused.
@@ -128,12 +132,12 @@ impl Told {
         }
     }
 
-    // A number with the bytes that were lent.
-    fn lent(number: u32, bytes: u64) -> Told
-        ensures { λ r. ⌜ r ≡ one number (pos (min bytes most)) ⌝ }
+    // A number with a length of what was lent, or a place in it.
+    fn lent(number: u32, first: u64) -> Told
+        ensures { λ r. ⌜ r ≡ one number (pos (min first most)) ⌝ }
     {
-        if bytes <= 0x7fff_ffff_ffff_ffff {
-            Told::signed(number, bytes as i64)
+        if first <= 0x7fff_ffff_ffff_ffff {
+            Told::signed(number, first as i64)
         } else {
             Told::signed(number, 0x7fff_ffff_ffff_ffff)
         }
@@ -240,6 +244,8 @@ impl Refusal {
             Refusal::NoRoomForLoops(first) => Told::one(32, first),
             Refusal::BrokenSlot(first) => Told::one(33, first),
             Refusal::NoRoomForBytes(first) => Told::lent(34, first),
+            Refusal::UnknownForm(first) => Told::lent(35, first),
+            Refusal::NoRoomForRows(first) => Told::lent(36, first),
         }
     }
 }

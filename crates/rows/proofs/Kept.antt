@@ -6,7 +6,7 @@ use mathlib.Core.Bool.{Bool, true, false, cond}
 use mathlib.Core.Path.{_≡_, refl}
 use native.Mathlib.Omega.{arith}
 use lib.Arith.{digits-mod}
-use borrow.Author.Tests.{ltb-true}
+use borrow.Author.Tests.{ltb-true, lt-ltb}
 use lib.Dec.{ltb, eqb}
 use lib.ListN.{drop}
 use Rattle.bounds.specs.Bounds.{code, boundsOf}
@@ -16,6 +16,7 @@ use Rattle.bounds.specs.declared.Places.{Places}
 use Rattle.bounds.specs.declared.Places.the-variants.{Fine, Bad, Code}
 use Rattle.refusals.specs.declared.Verdict.the-variants.{Good}
 use Rattle.rows.specs.Kept.{Below, Kept}
+use Rattle.rows.specs.Rows.{readOf, itemOf}
 
 late-not-fine : (v : ℕ) (rest : Places) → late v rest ≡ Fine → ⊥
 late-not-fine v Fine e = let z : _≡_ {A = ℕ} 0 1 = cc in omega arith
@@ -47,6 +48,17 @@ good-fine true (Code v) e = let z : _≡_ {A = ℕ} 0 1 = cc in absurd (omega ar
 pub within-bounds : (row : List ℕ) (names : ℕ) → checkOf row names ≡ Good → Below (boundsOf row) (drop 1 row)
 unfolding checkOf placesOf
 within-bounds row names e = fine-below (boundsOf row) (drop 1 row) (good-fine (inside (at row 0) (at row 1) (at row 2) (at row 3) names) (placesOf row) e)
+
+-- and a row whose numbers do is read as its item, where its name lies in the names
+below-fine : (bs vs : List ℕ) → Below bs vs → said bs vs Fine ≡ Fine
+unfolding said
+below-fine [] vs h = refl
+below-fine (b ∷ bs) [] h = refl
+below-fine (b ∷ bs) (v ∷ vs) h = rw (lt-ltb v b (h .0)) (below-fine bs vs (h .1))
+
+pub read-item : (row : List ℕ) (names : ℕ) → Below (boundsOf row) (drop 1 row) → inside (at row 0) (at row 1) (at row 2) (at row 3) names ≡ true → readOf row names ≡ itemOf row
+unfolding readOf checkOf placesOf
+read-item row names h i = rw (i, below-fine (boundsOf row) (drop 1 row) h)
 
 below-kept : (m : ℕ) → 0 < m → (bs vs : List ℕ) → Below bs vs → Kept m bs vs
 below-kept m p [] vs h = tt

@@ -40,7 +40,7 @@ fn put_bytes(out: &mut [u8], at: usize, bytes: &[u8]) -> usize
 }
 
 // A number in decimal; the place after it.
-fn put_decimal(out: &mut [u8], at: usize, n: u64) -> usize
+pub fn put_decimal(out: &mut [u8], at: usize, n: u64) -> usize
     requires { ⌜ at + 20 ≤ length (now out) ⌝ }
     ensures { λ r. ⌜ Puts (now (out .entry)) at (decimal n) (now (out .exit)) r ⌝ }
     ensures { λ r. ⌜ r ≤ at + 20 ⌝ }
@@ -159,7 +159,7 @@ fn ok(count: u32, parcels: &[u16], out: &mut [u8]) -> usize
 }
 
 // The smaller of two numbers.
-fn least(a: usize, b: usize) -> usize
+pub fn least(a: usize, b: usize) -> usize
     ensures { λ r. ⌜ (r ≡ min a b) × (r ≤ b) ⌝ }
 {
     if a < b { a } else { b }

@@ -3,6 +3,7 @@
 mod calls;
 mod lists;
 mod options;
+mod parcels;
 mod rows;
 mod speed;
 
@@ -10,15 +11,18 @@ use std::process::ExitCode;
 
 use options::Options;
 
-const USAGE: &str = "usage: compare all|rows|lists [--short] [--seed N] [--count N] [--jobs N]
+const USAGE: &str =
+    "usage: compare all|rows|lists|parcels [--short] [--seed N] [--count N] [--jobs N]
        compare speed [--seed N] [--count N] [--write FOLDER]
        compare memory port|rust|stack";
 
-/// Random rows and lists of a full run and of a short one.
+/// Random rows, lists and rows read back of a full run and of a short one.
 const ROWS: u64 = 10_000_000;
 const LISTS: u64 = 1_000_000;
+const PARCELS: u64 = 2_000_000;
 const SHORT_ROWS: u64 = 1_000_000;
 const SHORT_LISTS: u64 = 100_000;
+const SHORT_PARCELS: u64 = 100_000;
 /// Timed runs.
 const RUNS: u64 = 201;
 
@@ -40,10 +44,11 @@ fn run(words: &[String]) -> Result<bool, String> {
     match words.as_slice() {
         ["all", rest @ ..] => {
             let options = Options::read(rest)?;
-            Ok(compare_rows(&options) && compare_lists(&options))
+            Ok(compare_rows(&options) && compare_lists(&options) && compare_parcels(&options))
         }
         ["rows", rest @ ..] => Ok(compare_rows(&Options::read(rest)?)),
         ["lists", rest @ ..] => Ok(compare_lists(&Options::read(rest)?)),
+        ["parcels", rest @ ..] => Ok(compare_parcels(&Options::read(rest)?)),
         ["speed", rest @ ..] => {
             let options = Options::read(rest)?;
             let runs = options.count.unwrap_or(RUNS);
@@ -67,4 +72,9 @@ fn compare_rows(options: &Options) -> bool {
 fn compare_lists(options: &Options) -> bool {
     let count = options.count.unwrap_or(if options.short { SHORT_LISTS } else { LISTS });
     lists::compare(options, count)
+}
+
+fn compare_parcels(options: &Options) -> bool {
+    let count = options.count.unwrap_or(if options.short { SHORT_PARCELS } else { PARCELS });
+    parcels::compare(options, count)
 }

@@ -20,13 +20,13 @@ signed-requires-2 c κs = search needs
 
 returns : tie.Need-returns
 returns c =
-    let bytes = c .before .before .args .bytes in
+    let bytes = c .before .before .args .first in
     let e : min bytes most ≡ bytes = omega arith in
     c .signed .ensures ∙ rw (toZ-pos w64 {n = bytes} (omega arith), e)
 
 returns-2 : tie.Need-returns-2
 returns-2 c =
-    let e : min (c .before .before .args .bytes) most ≡ most = omega arith in
+    let e : min (c .before .before .args .first) most ≡ most = omega arith in
     c .signed2 .ensures ∙ rw e
 
 pub lent-spec : {M : Type 1} → statement M

@@ -1,4 +1,4 @@
-//! The contests: one instruction, kernels, labels, bytes.
+//! The contests: one instruction, kernels, labels, bytes, reading back.
 
 use std::hint::black_box;
 
@@ -8,7 +8,7 @@ pub use visa_oracle::kernels::SPARSE;
 use visa_oracle::linked::whole::OfC;
 use visa_oracle::list::List;
 use visa_oracle::random::Random;
-use visa_oracle::row::Row;
+use visa_oracle::row::{Row, WIDTH};
 use visa_oracle::same::{port, rust};
 
 use super::clock::{self, Contender, Contest};
@@ -20,6 +20,8 @@ pub const PORT_TYPES: &str = "the port's Rust types";
 pub const FROM_ROWS: &str = "the Rust from rows";
 pub const PARCELS: &str = "the Rust's parcels()";
 pub const COPY: &str = "memcpy of the rows";
+pub const BACK: &str = "reading back";
+pub const BACK_TYPES: &str = "reading back by the port's Rust types";
 
 /// A run over so many items is short enough to go by undisturbed on a busy machine.
 const ITEMS: usize = 40_000;
@@ -42,10 +44,21 @@ pub struct Figures {
     pub dense: Vec<Kernels>,
     pub labels: Vec<(Target, Contest)>,
     pub bytes: Contest,
+    pub back: Vec<Back>,
+}
+
+/// Kernels of one size, how many parcels they come to, and the contest of building and reading them
+/// back.
+pub struct Back {
+    pub items: usize,
+    pub parcels: usize,
+    pub contest: Contest,
 }
 
 /// Kernels of these sizes.
 pub const SIZES: [usize; 4] = [40, 400, 10_000, 1_000_000];
+/// Kernels of these sizes are read back; the last comes to a million parcels.
+const BACK_SIZES: [usize; 4] = [40, 400, 10_000, 400_000];
 
 pub fn take(seed: u64, runs: u64) -> Figures {
     clock::keep_memory();
@@ -62,6 +75,7 @@ pub fn take(seed: u64, runs: u64) -> Figures {
             .collect(),
         labels: Target::ALL.map(|target| (target, labels(&mut random, runs, target))).into(),
         bytes: bytes(&mut random, runs),
+        back: BACK_SIZES.iter().map(|&items| back(&mut random, runs, items)).collect(),
     }
 }
 
@@ -175,6 +189,35 @@ fn bytes(random: &mut Random, runs: u64) -> Contest {
     Contest::run(runs, parcels.len(), &mut contenders)
 }
 
+/// Building kernels, and reading back the parcels that were built: by the call and by the crate's
+/// types. Times are those of a parcel.
+fn back(random: &mut Random, runs: u64, items: usize) -> Back {
+    say(&format!("reading back kernels of {items} items"));
+    let count = (ITEMS / items).max(1);
+    let lists: Vec<List> = (0..count).map(|_| inputs::kernel(random, items, SPARSE)).collect();
+    let mut buffers = Buffers::for_lists(&lists);
+    let built: Vec<Vec<u16>> = lists.iter().map(|list| buffers.parcels(list)).collect();
+    let parcels = built.iter().map(Vec::len).sum();
+    let most = lists.iter().map(|list| list.rows().count()).max().unwrap_or(0);
+    let (mut rows, mut places) = (vec![0; most * WIDTH], vec![0; most]);
+    let port = || lists.iter().for_each(|list| buffers.build(c::build, black_box(list)));
+    let back = || {
+        for parcels in &built {
+            let read = c::read_back(black_box(parcels), &mut rows, &mut places);
+            assert_eq!(black_box(read).number, 0, "parcels that are refused");
+        }
+    };
+    let types = || {
+        for parcels in &built {
+            black_box(lhodrupesh::read_back(black_box(parcels)).expect("known forms"));
+        }
+    };
+    let mut contenders: [Contender; 3] =
+        [(PORT, Box::new(port)), (BACK, Box::new(back)), (BACK_TYPES, Box::new(types))];
+    let runs = if items > ITEMS { fewer(runs) } else { runs };
+    Back { items, parcels, contest: Contest::run(runs, parcels, &mut contenders) }
+}
+
 /// The buffers that a build is lent, long enough for each of some lists. Nothing clears them.
 pub struct Buffers {
     parcels: Vec<u16>,
@@ -196,8 +239,19 @@ impl Buffers {
     }
 
     pub fn build(&mut self, engine: OfC, list: &List) {
+        self.count(engine, list);
+    }
+
+    /// The parcels of a list.
+    pub fn parcels(&mut self, list: &List) -> Vec<u16> {
+        let count = self.count(c::build, list);
+        self.parcels[..count].to_vec()
+    }
+
+    fn count(&mut self, engine: OfC, list: &List) -> usize {
         let Self { parcels, labels, jumps, loops } = self;
         let told = engine(&list.numbers, &list.names, parcels, labels, jumps, loops);
         assert_eq!(black_box(told).number, 0, "a kernel that is refused");
+        told.count as usize
     }
 }

@@ -6,6 +6,7 @@ use std::{env, fs, thread};
 
 use lhodrupesh::c;
 use visa_oracle::random::Random;
+use visa_oracle::row::WIDTH;
 use visa_oracle::same::rust;
 
 use super::figures::{Buffers, SPARSE};
@@ -114,6 +115,8 @@ fn depths() -> Vec<usize> {
     let lists = [list];
     let mut buffers = Buffers::for_lists(&lists);
     let mut bytes = [0; 64];
+    let parcels = buffers.parcels(&lists[0]);
+    let (mut rows, mut places) = (vec![0; WIDTH * ITEMS / 10], vec![0; ITEMS / 10]);
     vec![
         depth(|| buffers.build(c::build, &lists[0])),
         depth(|| buffers.build(c::build_plain, &lists[0])),
@@ -130,6 +133,9 @@ fn depths() -> Vec<usize> {
         }),
         depth(|| {
             black_box(c::bytes(&[7; 32], &mut bytes));
+        }),
+        depth(|| {
+            black_box(c::read_back(&parcels, &mut rows, &mut places));
         }),
     ]
 }

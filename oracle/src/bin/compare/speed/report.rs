@@ -6,7 +6,10 @@ use std::{fs, thread};
 use visa_oracle::row::WIDTH;
 
 use super::clock::{Contest, Spread};
-use super::figures::{self, Figures, Kernels, COPY, FROM_ROWS, PARCELS, PLAIN, PORT, PORT_TYPES};
+use super::figures::{
+    self, Back, Figures, Kernels, BACK, BACK_TYPES, COPY, FROM_ROWS, PARCELS, PLAIN, PORT,
+    PORT_TYPES,
+};
 use super::memory::{self, Memory};
 
 /// To reach: the ratio to each.
@@ -58,6 +61,7 @@ pub fn text(figures: &Figures, memory: &Memory) -> String {
     text += &one(figures);
     text += &labels(figures);
     text += &bytes(figures);
+    text += &back(figures);
     text + &of_memory(memory)
 }
 
@@ -179,6 +183,26 @@ fn bytes(figures: &Figures) -> String {
     )
 }
 
+fn back(figures: &Figures) -> String {
+    let mut text = "## Reading back\n\n".to_string();
+    text += "Nanoseconds a parcel: `lhodrupesh_build` of a kernel's rows, and `lhodrupesh_read_back` of the parcels that it built, into lent rows and\n\
+             places; the ratio is the build's time over the reader's. The port's Rust types give the same as values in a `Vec`. The Rust reads nothing back.\n\n";
+    text += "| Items | Parcels | Building | Reading back | Ratio | Reading back by the port's Rust types |\n|---|---|---|---|---|---|\n";
+    for Back { items, parcels, contest } in &figures.back {
+        text += &format!(
+            "| {} | {} | {} | {} | {} | {} |\n",
+            grouped(*items),
+            grouped(*parcels),
+            times(contest, PORT),
+            times(contest, BACK),
+            contest.ratio(BACK, PORT).text(2),
+            times(contest, BACK_TYPES),
+        );
+    }
+    text += "\nThe parcels are those of a round: of 1,000 kernels of 40 items, 100 of 400, 4 of 10,000 and one of 400,000.\n\n";
+    text
+}
+
 fn of_memory(memory: &Memory) -> String {
     let Memory { port, rust, stack } = *memory;
     let items = memory::ITEMS;
@@ -187,7 +211,7 @@ fn of_memory(memory: &Memory) -> String {
     let each = |bytes: usize| format!("{:.1}", bytes as f64 / items as f64);
     format!(
         "## Memory\n\nThe library allocates nothing and has no static data that it writes: `include/test` looks at what it asks of others. It uses what the \
-         caller lends:\n{row} bytes a row, 2 a parcel, 12 a label, 8 a jump, 16 an open loop, and the names. Its deepest stack was {} bytes, on a list of \
+         caller lends:\n{row} bytes a row, 2 a parcel, 12 a label, 8 a jump, 16 an open loop, 8 a place of a row read back, and the names. Its deepest stack was {} bytes, on a list of \
          {} items and on\none; no function calls itself.\n\nPeak beyond the rows in a build of {} items: the port {} ({} bytes an item, the \
          parcels and tables lent to it), the Rust {}\n({} bytes an item: its items, parcels and tables).\n",
         grouped(stack),

@@ -1,0 +1,11 @@
+pub mod Finding
+pub mod Folded
+pub mod Shapes
+pub mod Alike
+pub mod Larger
+pub mod Held
+pub mod Beside
+pub mod Standing
+pub mod Computing
+pub mod Returning
+pub mod Looping

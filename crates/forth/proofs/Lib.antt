@@ -1,0 +1,10 @@
+pub mod Entries
+pub mod Encoded
+pub mod Bits
+pub mod Plain
+pub mod LoopStarts
+pub mod Single
+pub mod Beside
+pub mod Moves
+pub mod Forth
+pub mod LeafAlone

@@ -1,0 +1,9 @@
+pub mod Ranges
+pub mod Keeps
+pub mod Turns
+pub mod InLine
+pub mod AtHand
+pub mod Whole
+pub mod Feeding
+pub mod Piped
+pub mod Samples

@@ -1,0 +1,2 @@
+pub mod Parcels
+pub mod Steps

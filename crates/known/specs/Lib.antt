@@ -1,0 +1,4 @@
+pub mod Front
+pub mod Twins
+pub mod Table
+pub mod Window

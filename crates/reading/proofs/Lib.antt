@@ -1,0 +1,6 @@
+pub mod Stores
+pub mod Wiping
+pub mod Found
+pub mod Walked
+pub mod Numbers
+pub mod Single

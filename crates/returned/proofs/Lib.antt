@@ -1,0 +1,4 @@
+pub mod Read
+pub mod Items
+pub mod Walk
+pub mod Kernels

@@ -1,0 +1,1 @@
+// Definitions and theorems alone: the parcels of an accepted kernel are read back, each item's row at its place.
