@@ -53,7 +53,7 @@ link: ## prove the library and write target/staticlib/liblink.a
 sample: oracle ## make the stored answers of the original Rust anew
 	@sh oracle/store
 
-compare: link ## hold the port against the original Rust: rows, lists by both engines, the Rust crate and the C example, some minutes
+compare: link ## hold the port against the original Rust: rows, lists by both engines, parcels read back, the Rust crate and the C example, some minutes
 	@sh oracle/build test
 	@LINK_LIB=target/staticlib sh oracle/build compare
 	@$(X86_64) $(ORACLE)/compare all
@@ -70,7 +70,7 @@ check-memory: link ## run the comparison on few inputs under valgrind, some minu
 	@sh include/test
 	@sh oracle/check-memory
 
-speed: link ## time both engines of the port and the original Rust, and write docs/SPEED.md and its plot; on another processor than x86-64 count instructions
+speed: link ## time both engines of the port, its reader of parcels and the original Rust, and write docs/SPEED.md and its plot; on another processor than x86-64 count instructions
 ifeq ($(X86_64),)
 	@LINK_LIB=target/staticlib sh oracle/build compare
 	@$(ORACLE)/compare speed --write docs
