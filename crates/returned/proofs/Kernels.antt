@@ -29,6 +29,7 @@ use Rattle.reading.specs.Back.{Goes, roomIn, toldRows, ReadsBack}
 use Rattle.reading.proofs.Single.{goes-only}
 use Rattle.inverse.proofs.Small.{no-parcels, parcels-join, zero-parcels, form-parcels, settled-parcels, parcels-drop}
 use Rattle.returned.specs.Returned.{row, ComesBack, Returned}
+use Rattle.returned.proofs.Stands.{Stands, stand}
 use Rattle.returned.proofs.Walk.{From, back-from}
 
 -- ---- what items leave are parcels
@@ -97,13 +98,14 @@ module _ (rows names : List ℕ) (lent : Lent) (t : Told) (x : Lent) (contract :
       let w : min (length (lent .parcels)) mostParcels ≤ mostParcels = omega arith in
       omega (arith, u, v, w)
 
+  standing :
+      (i : ℕ) (rest : List ℕ) → i < n → isEntry (it i) ≡ 1 → Parcels (emitted i ++ rest) → Parcels rest → ((more : List ℕ) → rest ≡ 0x083f ∷ more → ⊥) → Stands rows names i rest
+  standing = stand rows names (x .parcels) (valid .rule1) (whole-row rows) small (stands .jump) (stands .loop) (stands .at-place)
+
   module _ (enough : entries it n ≤ roomIn rows₀ places₀) where
-    walked : From rows names (x .parcels)
-        (valid .rule1) (whole-row rows) small (stands .jump) (stands .loop) (stands .at-place) (roomIn rows₀ places₀) 0
+    walked : From rows names standing (roomIn rows₀ places₀) 0
     walked =
-        back-from rows names (x .parcels)
-        (valid .rule1) (whole-row rows) small (stands .jump) (stands .loop) (stands .at-place) (roomIn rows₀ places₀) enough
-        (λ i h. parcels-drop (place it i) (gather emitted n) (gather-parcels k n)) n 0 (omega arith)
+        back-from rows names standing (roomIn rows₀ places₀) enough (λ i h. parcels-drop (place it i) (gather emitted n) (gather-parcels k n)) n 0 (omega arith)
 
     same : (reads .newRows ≡ walked .rows′) × (reads .newPlaces ≡ walked .places′) × (reads .verdict ≡ verdict.Good)
     same =

@@ -1,4 +1,5 @@
 pub mod Read
 pub mod Items
+pub mod Stands
 pub mod Walk
 pub mod Kernels
