@@ -70,7 +70,7 @@ check-memory: link ## run the comparison on few inputs under valgrind, some minu
 	@sh include/test
 	@sh oracle/check-memory
 
-speed: link ## time both engines of the port, its reader of parcels and the original Rust, and write docs/SPEED.md and its plot; on another processor than x86-64 count instructions
+speed: link ## time both engines of the port, its reader of parcels and the original Rust, and write docs/SPEED.md and its plot; on another processor than x86-64 count instructions, a quarter of an hour
 ifeq ($(X86_64),)
 	@LINK_LIB=target/staticlib sh oracle/build compare
 	@$(ORACLE)/compare speed --write docs

@@ -54,7 +54,59 @@ fn add_block(random: &mut Random, list: &mut List, label: Option<String>) {
     }
 }
 
+/// Which label the jumps of a list of many labels go to.
+#[derive(Debug, Clone, Copy)]
+pub enum Target {
+    /// The last one of the list, from behind it.
+    Newest,
+    Oldest,
+    Random,
+    /// The one bound last before the jump.
+    Latest,
+}
+
+impl Target {
+    pub const ALL: [Self; 4] = [Self::Newest, Self::Oldest, Self::Random, Self::Latest];
+
+    pub fn name(self) -> &'static str {
+        match self {
+            Self::Newest => "newest",
+            Self::Oldest => "oldest",
+            Self::Random => "random",
+            Self::Latest => "latest",
+        }
+    }
+}
+
+/// As many labels as there may be, each with an instruction after it, and as many jumps: behind all
+/// of them, or each behind its label's instruction.
+pub fn labels(random: &mut Random, target: Target) -> List {
+    let Limits { labels, jumps, .. } = Limits::default();
+    let mut list = List::default();
+    for number in 0..labels {
+        list.push_named(&[48], name(number).as_bytes());
+        list.push(&instruction(random));
+        if let Target::Latest = target {
+            add_jump(random, &mut list, number);
+        }
+    }
+    for _ in 0..jumps {
+        let number = match target {
+            Target::Newest => labels - 1,
+            Target::Oldest => 0,
+            Target::Random => random.below(labels as u32) as usize,
+            Target::Latest => break,
+        };
+        add_jump(random, &mut list, number);
+    }
+    list
+}
+
+fn add_jump(random: &mut Random, list: &mut List, number: usize) {
+    list.push_named(&[49, random.below(7)], name(number).as_bytes());
+}
+
 /// The names of labels are of one length.
-pub fn name(number: usize) -> String {
+fn name(number: usize) -> String {
     format!("label_{number:04}")
 }

@@ -20,6 +20,7 @@ use Rattle.places.specs.Looking.{Found, at, nothing, labelled, closer}
 use Rattle.places.specs.Verdict.{jumpOffset}
 use Rattle.places.proofs.Emitted.{settled-three, emits}
 use Rattle.prefixes.proofs.Tests.{order, same-row}
+use Rattle.prefixes.proofs.Single.{Single}
 use Rattle.prefixes.proofs.Totals.{total-up}
 use Rattle.tables.specs.Tables.{KernelFine}
 use Rattle.places.specs.Left.{zeros}
@@ -104,13 +105,13 @@ module _ (k : Kernel) where
         (gather-eq (stage q) (stage (suc q)) n
         (λ x u. ⊎-elim (λ lt. other x (let g : x ≢ r = omega arith in g)) (λ ge. ⊎-elim (λ v. subst (λ (z : ℕ). stage q z ≡ stage (suc q) z) v same) (λ gt. other x (let g : x ≢ r = omega arith in g)) (eq-or-lt-of-le ge)) (order x r)))
 
-  module _ (lent : Lent) (f : Fits (k .it) lent (k .n)) (fine : KernelFine k) where
+  module _ (lent : Lent) (f : Fits (k .it) lent (k .n)) (single : Single k (k .n)) (fine : KernelFine k) where
     pub staged : (q : ℕ) → q ≤ total isJump (k .it) (k .n) → jumpsAt k lent q ≡ gather (stage q) (k .n) ++ drop (place (k .it) (k .n)) (lent .parcels)
     staged zero h = parcels-are k lent fine n f ∙ ap (λ (x : List ℕ). x ++ drop (place it n) (lent .parcels)) (gather-eq (parts it n) (stage 0) n (λ r u. rw (le-ltb (total isJump it r) 0 (omega arith)) refl))
     staged (suc q) h =
         let c = jump-row it n q (omega arith) in
         ap₂ (settles k (endOf k lent)) (sym (c .number)) (staged q (omega arith))
-        ∙ settle-is k lent f (c .row) (c .before) (c .is) (gather (stage q) n ++ drop (place it n) (lent .parcels))
+        ∙ settle-is k lent f single (c .row) (c .before) (c .is) (gather (stage q) n ++ drop (place it n) (lent .parcels))
         ∙ settle (c .row) q (c .is) (c .number) (c .before) (drop (place it n) (lent .parcels)) (labelled k (c .is .start) (c .is .len) n) refl
 
     pub aimed-are : jumpsAt k lent (total isJump (k .it) (k .n)) ≡ gather final (k .n) ++ drop (place (k .it) (k .n)) (lent .parcels)

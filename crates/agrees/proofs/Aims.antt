@@ -17,6 +17,7 @@ use Rattle.places.specs.Looking.{Found, at, nothing, labelled}
 use Rattle.places.specs.Verdict.{reach, reaches, reachAt}
 use Rattle.prefixes.proofs.Tests.{order}
 use Rattle.refusals.proofs.Order.{refused-good, StopsAt, AllPass}
+use Rattle.prefixes.proofs.Single.{Single}
 use Rattle.prefixes.proofs.Totals.{total-up}
 use Rattle.machine.specs.declared.State.{State}
 use Rattle.tables.specs.declared.Sought.{Sought}
@@ -54,7 +55,10 @@ endOf k lent = mem (k .it) lent (k .n)
 abbrev pub jumpsAt : Kernel → Lent → ℕ → List ℕ
 jumpsAt k lent q = let m = endOf k lent in scanAt (waits k m) (settles k m) (m .lent .parcels) q
 
-module _ (k : Kernel) (lent : Lent) (f : Fits (k .it) lent (k .n)) where
+pub jumps-is : (k : Kernel) (lent : Lent) → endOf k lent .s .jumps ≡ total isJump (k .it) (k .n)
+jumps-is k lent = ap (λ (s : State). s .jumps) (state-is (k .it) lent (k .n))
+
+module _ (k : Kernel) (lent : Lent) (f : Fits (k .it) lent (k .n)) (single : Single k (k .n)) where
   abbrev it : ℕ → Coded
   it = k .it
 
@@ -64,11 +68,8 @@ module _ (k : Kernel) (lent : Lent) (f : Fits (k .it) lent (k .n)) where
   abbrev end : Mem
   end = endOf k lent
 
-  found-is : (a b : ℕ) → lookup (k .names) (end .lent .labels) a b (end .s .labels) 0 ≡ placed it (labelled k a b n)
-  found-is a b = ap (λ (s : State). lookup (k .names) (end .lent .labels) a b (s .labels) 0) (state-is it lent n) ∙ lookup-is k n (end .lent .labels) (entries-held k lent n f) a b n (omega arith)
-
-  pub jumps-is : endOf k lent .s .jumps ≡ total isJump (k .it) (k .n)
-  jumps-is = ap (λ (s : State). s .jumps) (state-is it lent n)
+  found-is : (a b : ℕ) → lookup (k .names) (end .lent .labels) a b (end .s .labels) ≡ placed it (labelled k a b n)
+  found-is a b = ap (λ (s : State). lookup (k .names) (end .lent .labels) a b (s .labels)) (state-is it lent n) ∙ lookup-is k n (end .lent .labels) (entries-held k lent n f) a b single
 
   -- ---- the jump of row i, at its number
   module _ (i : ℕ) (before : i < k .n) (y : IsJump (k .it i)) (ps : List ℕ) where
@@ -95,7 +96,7 @@ module _ (k : Kernel) (lent : Lent) (f : Fits (k .it) lent (k .n)) where
 
   pub aims-good : AllPass (reachAt k) (k .n) → aimsOf k (endOf k lent) ≡ Good
   aims-good all =
-      let e = jumps-is in
+      let e = jumps-is k lent in
       all-scan (waits k end) (settles k end) (end .lent .parcels) (end .s .jumps) 0 (λ q u w. let c = jump-row it n q (omega arith) in by-number q c (all (c .row) (c .before)))
 
   -- the first jump that is refused: why, and its row as the table has it
@@ -104,7 +105,7 @@ module _ (k : Kernel) (lent : Lent) (f : Fits (k .it) lent (k .n)) where
     where
       jump : IsJump (it (s .row)) → (aimsOf k end ≡ Refused (s .why)) × (aimsRow k end ≡ s .row)
       jump y =
-          let e = jumps-is in
+          let e = jumps-is k lent in
           let one : isJump (it (s .row)) ≡ 1 = ap isJump (y .jump) in
           let up = total-up isJump it (suc (s .row)) n (s .before) in
           let t =

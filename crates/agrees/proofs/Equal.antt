@@ -23,6 +23,7 @@ use Rattle.refusals.specs.Numbers.{answerOf}
 use Rattle.places.specs.Verdict.{verdictAt, reachAt}
 use Rattle.places.specs.Looking.{opener, deepest}
 use Rattle.prefixes.proofs.Looking.{pick-true, pick-false}
+use Rattle.prefixes.proofs.Single.{Single, single}
 use Rattle.refusals.proofs.Order.{StopsAt, AllPass, either, all-first, all-passing, stop-first, stop-passing}
 use Rattle.machine.specs.declared.State.{State}
 use Rattle.machine.specs.Machine.{Mem, memOf, withParcels}
@@ -147,34 +148,37 @@ module _ (k : Kernel) (lent : Lent) (fine : KernelFine k) where
     f : Fits it lent n
     f = fits n all n (omega arith)
 
+    one : Single k n
+    one = single k r n (rows-good n all)
+
     passed-all : (scanChk C N m₀ n 0 ≡ Good) × (scanEnd C N m₀ n 0 ≡ n)
     passed-all =
         let c = all-scan C N m₀ n 0 (λ q u v. at-row q ∙ all q (omega arith)) in
         (c, scan-end C N m₀ n 0 c ∙ (let w : 0 + n ≡ n = omega arith in w))
 
     settling-is : (q : ℕ) → q ≤ total isJump it n → Front (jumpsAt k lent q) (gather (stage k q) n) (lent .parcels) (place it n)
-    settling-is q h = record { held = staged k lent f fine q h; many = stage-length k q n }
+    settling-is q h = record { held = staged k lent f one fine q h; many = stage-length k q n }
 
     settled-is : Front (jumpsAt k lent (total isJump it n)) (gather (final k) n) (lent .parcels) (place it n)
-    settled-is = record { held = aimed-are k lent f fine; many = place-emitted k n }
+    settled-is = record { held = aimed-are k lent f one fine; many = place-emitted k n }
 
     by-aims : (row : ℕ) (v : Verdict) → aimsOf k (M n) ≡ v → aimsOut row v (withP (closed (M n)) (aimsP k (M n))) ≡ came (ofRow row v) n
     by-aims row Good g =
-        let b = jumps-is k lent f in
+        let b = jumps-is k lent in
         let e : aimsEnd k (M n) ≡ total isJump it n = scan-end (waits k (M n)) (settles k (M n)) (M n .lent .parcels) (M n .s .jumps) 0 g ∙ (let w : 0 + M n .s .jumps ≡ total isJump it n = omega arith in w) in
         out-eq (ap (λ (s : State). answer.Accepted (s .at)) (state-is it lent n)) (ap (jumpsAt k lent) e ∙ put-good settled-is) (put-good (L-is n all)) (put-good (J-is n all)) (K-is n all)
     by-aims row (Refused why) g =
         let a = scan-low (waits k (M n)) (settles k (M n)) (M n .lent .parcels) (M n .s .jumps) 0 in
-        let b = jumps-is k lent f in
+        let b = jumps-is k lent in
         wiped-is n all why row (aimsP k (M n)) (rest-is (settling-is (aimsEnd k (M n)) (omega arith)))
 
     -- what is said of the waiting jumps, with its row; an accepted list names none
     aims-named : AllPass (reachAt k) n ⊎ StopsAt (reachAt k) n → came (ofRow (aimsRow k (M n)) (aimsOf k (M n))) n ≡ came (foremost (firstIn (reachAt k) n ∷ [])) n
     aims-named (inl a) =
-        ap (λ (v : Verdict). came (ofRow (aimsRow k (M n)) v) n) (aims-good k lent f a)
+        ap (λ (v : Verdict). came (ofRow (aimsRow k (M n)) v) n) (aims-good k lent f one a)
         ∙ ap (λ (v : Verdict). came (foremost (ofRow (passing (reachAt k) n) v ∷ [])) n) (sym (all-first (reachAt k) n a))
     aims-named (inr s) =
-        let t = aims-stop k lent f s in
+        let t = aims-stop k lent f one s in
         ap₂ (λ (i : ℕ) (v : Verdict). came (ofRow i v) n) (t .1 ∙ sym (stop-passing (reachAt k) n s)) (t .0)
         ∙ ap (λ (v : Verdict). came (foremost (ofRow (passing (reachAt k) n) v ∷ [])) n) (sym (stop-first (reachAt k) n s))
 

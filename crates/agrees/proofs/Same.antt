@@ -15,16 +15,16 @@ use Rattle.places.specs.declared.OpenLoop.{OpenLoop}
 use Rattle.places.specs.Items.{Kernel, isLabel, total, nest}
 use Rattle.refusals.specs.Order.{when, first}
 use Rattle.places.specs.Left.{Lent}
-use Rattle.places.specs.Looking.{opener, labelled}
+use Rattle.places.specs.Looking.{opener}
 use Rattle.places.specs.Verdict.{faults}
 use Rattle.checks.specs.Checks.{instructionChk, labelChk, jumpChk, beginChk}
 use Rattle.machine.specs.declared.State.{State}
 use Rattle.machine.specs.Machine.{Mem, check, endChk, topOf}
-use Rattle.tables.specs.Tables.{isThere, KernelFine}
+use Rattle.tables.specs.Tables.{KernelFine}
 use Rattle.agrees.proofs.Prefix.{mem, stateOf, state-is, checkAt}
 use Rattle.agrees.proofs.Fits.{Fits}
 use Rattle.agrees.proofs.Tables.{entries-held}
-use Rattle.tables.proofs.Lookups.{there-is, lookup-is}
+use Rattle.tables.proofs.Lookups.{lookup-there}
 use Rattle.agrees.proofs.Tops.{top-is, top-form}
 use Rattle.agrees.proofs.Tails.{shared-is, short-is}
 
@@ -54,7 +54,7 @@ module _ (k : Kernel) (fine : KernelFine k) (lent : Lent) (r : Rooms) (i : ℕ) 
   row-by (Label a b) =
       ap (λ (s : State). labelChk r (s .depth) (k .names) (M .lent .labels) (s .labels) a b) s-is
       ∙ ap (λ (t : Bool). first (when (ltb 0 (nest it i)) (LabelInLoop a b) ∷ when t (DuplicateLabel a b) ∷ when (ltb (r .labels) (total isLabel it i + 1)) (NoRoomForLabels (r .labels)) ∷ []))
-      (ap isThere (lookup-is k i (M .lent .labels) (entries-held k lent i f) a b i (omega arith)) ∙ there-is it (labelled k a b i))
+      (lookup-there k i (M .lent .labels) (entries-held k lent i f) a b)
   row-by (Jump c a b) = ap (λ (s : State). jumpChk r (s .at) (s .jumps) (s .depth)) s-is
   row-by (LoopBegin c m) = ap (λ (s : State). beginChk r (s .at) (s .depth)) s-is
   row-by LoopEnd = ap (λ (s : State). endChk s (topOf s (M .lent .loops))) s-is ∙ end-is (eqb (nest it i) 0) refl

@@ -44,7 +44,7 @@ instruction-good r at depth c e =
 
 pub record LabelGood (r : Rooms) (depth : ℕ) (names ls : List ℕ) (n a b : ℕ) : Type 0 where
   pub outside : depth ≤ 0
-  pub fresh : lookup names ls a b n 0 ≡ Nowhere
+  pub fresh : lookup names ls a b n ≡ Nowhere
   pub labels : n + 1 ≤ r .labels
 
 pub label-good : (r : Rooms) (depth : ℕ) (names ls : List ℕ) (n a b : ℕ) → labelChk r depth names ls n a b ≡ Good → LabelGood r depth names ls n a b

@@ -27,7 +27,7 @@ abbrev pub labelChk : Rooms → ℕ → List ℕ → List ℕ → ℕ → ℕ �
 labelChk r depth ns ls n a b =
     first
     (when (ltb 0 depth) (LabelInLoop a b)
-    ∷ when (isThere (lookup ns ls a b n 0)) (DuplicateLabel a b)
+    ∷ when (isThere (lookup ns ls a b n)) (DuplicateLabel a b)
     ∷ when (ltb (r .labels) (n + 1)) (NoRoomForLabels (r .labels))
     ∷ [])
 

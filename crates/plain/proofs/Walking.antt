@@ -20,16 +20,15 @@ use Rattle.coded.specs.declared.Coded.the-variants as coded
 use Rattle.coded.specs.declared.Coded.the-variants.{Instruction, Label, Jump, LoopBegin, LoopEnd}
 use Rattle.places.specs.declared.Rooms.{Rooms}
 use Rattle.places.specs.Items.{Kernel, kernelOf, rowAt, rowsIn, about, isLabel, isJump, total, place, nest, labelWidth, jumpWidth}
-use Rattle.places.specs.Looking.{labelled}
 use Rattle.places.specs.Verdict.{faults, verdictAt, taken}
 use Rattle.places.specs.Left.{Lent, left}
 use Rattle.prefixes.proofs.Names.{row-fine}
 use Rattle.prefixes.proofs.Traits.{one-way}
 use Rattle.prefixes.proofs.Passing.{Fits, fits}
-use Rattle.tables.specs.Tables.{isThere, KernelFine}
+use Rattle.tables.specs.Tables.{KernelFine}
 use Rattle.tables.specs.Held.{HoldsLabels}
 use Rattle.tables.proofs.Held.{labels-held}
-use Rattle.tables.proofs.Lookups.{there-is, lookup-is, entries-in}
+use Rattle.tables.proofs.Lookups.{lookup-there, entries-in}
 use Rattle.ends.specs.Ends.{Closed}
 use Rattle.plain.specs.declared.first.Before.{Before}
 use Rattle.plain.specs.declared.first.Placed.{Placed}
@@ -52,7 +51,7 @@ module _ (k : Kernel) where
   check-by r ls i held (Instruction c) = refl
   check-by r ls i held (Label a b) =
       ap (λ (t : Bool). first (when (ltb 0 (nest it i)) (LabelInLoop a b) ∷ when t (DuplicateLabel a b) ∷ when (ltb (r .labels) (total isLabel it i + 1)) (NoRoomForLabels (r .labels)) ∷ []))
-      (ap isThere (lookup-is k i ls held a b i (omega arith)) ∙ there-is it (labelled k a b i))
+      (lookup-there k i ls held a b)
   check-by r ls i held (Jump c a b) = refl
   check-by r ls i held (LoopBegin c m) = refl
   check-by r ls i held LoopEnd = refl

@@ -38,6 +38,7 @@ use Rattle.prefixes.proofs.Traits.{closes-end}
 use Rattle.prefixes.proofs.Totals.{total-up}
 use Rattle.prefixes.proofs.Looking.{latest-row, newest-is, newest-none, at-nothing}
 use Rattle.prefixes.proofs.Passing.{Fits, passed, fits}
+use Rattle.prefixes.proofs.Single.{single}
 use Rattle.tables.specs.Tables.{lookup}
 use Rattle.tables.proofs.Lookups.{placed, lookup-is}
 use Rattle.settling.specs.Settling.{aimForm}
@@ -118,11 +119,11 @@ module _ (k : Kernel) {ls : List ℕ} {count room : ℕ} (w : Writable k ls coun
 
   -- ---- a jump
   module _ {c : Condition} {a b : ℕ} (e : it i ≡ Jump c a b) where
-    looked : lookup names ls a b count 0 ≡ placed it (labelled k a b n)
-    looked = ap (λ (y : ℕ). lookup names ls a b y 0) (w .count-is) ∙ lookup-is k n ls (w .held) a b n (omega arith)
+    looked : lookup names ls a b count ≡ placed it (labelled k a b n)
+    looked = ap (lookup names ls a b) (w .count-is) ∙ lookup-is k n ls (w .held) a b (single k r n (w .passed))
 
     abbrev word : Form
-    word = jumpWord c (place it i) a b (lookup names ls a b count 0)
+    word = jumpWord c (place it i) a b (lookup names ls a b count)
 
     wordy : (s : Found) → Wordy (jumpWord c (place it i) a b (placed it s))
     unfolding aimForm

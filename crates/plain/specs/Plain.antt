@@ -173,7 +173,7 @@ jumpWord c p a b (At q) = aimForm c p q
 jumpWord c p a b Nowhere = form.Refused (UndefinedLabel a b)
 
 abbrev pub jumpForms : List ℕ → List ℕ → ℕ → ℕ → Coded → Form
-jumpForms ns ls count p x = ofJump (λ c a b. jumpWord c p a b (lookup ns ls a b count 0)) form.Leaf x
+jumpForms ns ls count p x = ofJump (λ c a b. jumpWord c p a b (lookup ns ls a b count)) form.Leaf x
 
 -- the word of the loop start in row i, once its end is looked for
 pub record StartWord (rows names : List ℕ) (i : ℕ) (f : Form) : Type 0 where

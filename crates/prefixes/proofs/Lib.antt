@@ -6,3 +6,4 @@ pub mod Nesting
 pub mod Names
 pub mod Gathered
 pub mod Passing
+pub mod Single

@@ -106,6 +106,27 @@ earliest-row t (suc n) = go (earliest-row t n) (t n) refl
         let r = f .1 in
         inr (f .0, record { before = omega (arith, r .before); holds = r .holds; earlier = r .earlier }, rw (f .2))
 
+-- ---- the last and the first: one is found where the other is, and they are the same where no two pass
+-- before one that passes none does
+abbrev pub Once : (ℕ → Bool) → ℕ → Type 0
+Once t n = (q : ℕ) → q < n → t q ≡ true → None t q
+
+module _ (t : ℕ → Bool) (n : ℕ) where
+  pub newest-found : isFound (newest t n) ≡ isFound (earliest t n)
+  newest-found =
+      ⊎-elim (λ x. ap isFound (newest-none t n (x .0) ∙ sym (x .1)))
+      (λ x. ⊎-elim (λ none. absurd (true-false (x .1 .holds) (none (x .0) (x .1 .before)))) (λ m. ap isFound (newest-is t n m) ∙ sym (ap isFound (x .2))) (latest-row t n))
+      (earliest-row t n)
+
+  pub newest-earliest : Once t n → newest t n ≡ earliest t n
+  newest-earliest once =
+      ⊎-elim (λ x. newest-none t n (x .0) ∙ sym (x .1))
+      (λ x.
+      let r = x .1 in
+      newest-is t n (record { row = x .0; before = r .before; holds = r .holds; after = λ q u v. not-so (t q) (λ e. true-false (r .holds) (once q v e (x .0) u)) })
+      ∙ sym (x .2))
+      (earliest-row t n)
+
 -- a refusal for what is found: none is found
 module _ (t : ℕ → Bool) (i : ℕ) (r : ℕ → Refusal) where
   pub found-good : whenFound (newest t i) r ≡ Good → None t i

@@ -1,7 +1,7 @@
 -- Rule 2: each label is the first of its name exactly when no name occurs twice, and a jump reaches the label that bears its name.
 use Prim.Native.Nat.{ℕ, _+_, _≤_, _<_}
 use native.Mathlib.Omega.{arith}
-use mathlib.Core.Path.{_≡_, sym, ap, _∙_, subst}
+use mathlib.Core.Path.{_≡_, refl, sym, ap, _∙_, subst}
 use mathlib.Core.Logic.{⊎-elim}
 use mathlib.Core.Bool.{false}
 use lib.ListN.{length}
@@ -15,12 +15,13 @@ use Rattle.places.specs.Items.{Kernel, address}
 use Rattle.places.specs.Looking.{Found, at, bears, labelled, isFound}
 use Rattle.places.specs.Verdict.{reach, reaches}
 use Rattle.prefixes.proofs.Tests.{true-false, same-row}
-use Rattle.refusals.proofs.Order.{refused-good, when-good}
-use Rattle.prefixes.proofs.Looking.{not-found, at-nothing, earliest-row}
+use Rattle.refusals.proofs.Order.{refused-good}
+use Rattle.prefixes.proofs.Looking.{earliest-row}
 use Rattle.prefixes.proofs.Names.{Named, bears-label, label-bears}
+use Rattle.prefixes.proofs.Single.{single}
 use Rattle.rules.specs.Rules.{SameName, Aimed, Rule2}
 use Rattle.rules.specs.WhichRow.{RowsPass}
-use Rattle.rules.proofs.Rows.{JumpsReach, passed}
+use Rattle.rules.proofs.Rows.{JumpsReach}
 
 module _ (k : Kernel) (named : Named k) where
   open Kernel k using (names, it, n)
@@ -29,11 +30,8 @@ module _ (k : Kernel) (named : Named k) where
   module _ (r : Rooms) (rows : RowsPass k r) (jumps : JumpsReach k) where
     twice : (i j a b c d : ℕ) → i < j → j < n → it i ≡ Label a b → it j ≡ Label c d → SameName names a b c d → ⊥
     twice i j a b c d l h e f s =
-        let z = not-found _ (when-good _ _ (passed k r rows j h (Label c d) f .1 .0)) in
-        ⊎-elim
-        (λ x. true-false (label-bears names c d (named .label j c d f) (it i) a b (named .label i a b e) e s) (x .0 i l))
-        (λ x. at-nothing (x .0) (sym (x .2) ∙ z))
-        (earliest-row (λ q. bears names c d (it q)) j)
+        let g = named .label j c d f in
+        true-false (label-bears names c d g (it i) a b (named .label i a b e) e s) (single k r n rows c d j h (label-bears names c d g (it j) c d g f refl) i l)
 
     aimed : (i : ℕ) → i < n → (c : Condition) (a b : ℕ) → it i ≡ Jump c a b → Aimed k i a b
     aimed i h c a b e =

@@ -39,10 +39,10 @@ aimed c p Nowhere ps = ps
 -- the waiting jump at place p, as its row says, over n label entries
 module _ (ns ls : List ℕ) (n p : ℕ) where
   abbrev pub aimRowChk : Coded → Verdict
-  aimRowChk x = ofJump (λ c a b. aimChk c p a b (lookup ns ls a b n 0)) Good x
+  aimRowChk x = ofJump (λ c a b. aimChk c p a b (lookup ns ls a b n)) Good x
 
   abbrev pub rowAimed : List ℕ → Coded → List ℕ
-  rowAimed ps x = ofJump (λ c a b. aimed c p (lookup ns ls a b n 0) ps) ps x
+  rowAimed ps x = ofJump (λ c a b. aimed c p (lookup ns ls a b n) ps) ps x
 
 pub record Settles (ns ls : List ℕ) (n p : ℕ) (x : Coded) (ps : List ℕ) (r : Verdict) (ps′ : List ℕ) : Type 0 where
   pub answer : r ≡ aimRowChk ns ls n p x

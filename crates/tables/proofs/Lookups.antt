@@ -1,5 +1,5 @@
--- A table that holds the entries of the label rows: its search finds what the items say, the address of the first row that bears the
--- name, and its entries lie in the names.
+-- A table that holds the entries of the label rows: its search finds what the items say, the address of the row that bears the name,
+-- and its entries lie in the names. `newest-entry` is the only law about the order of the search.
 use mathlib.Core.Path.{_≡_, refl, sym, ap, _∙_, subst}
 use mathlib.Core.Logic.{⊎-elim}
 use mathlib.Core.Bool.{Bool, true, false, cond}
@@ -10,73 +10,44 @@ use lib.ListN.{length, getD}
 use Rattle.coded.specs.declared.Coded.{Coded}
 use Rattle.coded.proofs.Fine.{label-named}
 use Rattle.places.specs.Items.{Kernel, isLabel, total, address}
-use Rattle.places.specs.Looking.{Found, at, nothing, isFound, bears, labelled}
+use Rattle.places.specs.Looking.{Found, at, nothing, isFound, newest, bears, labelled}
+use Rattle.prefixes.proofs.Looking.{newest-found, newest-earliest, pick-false}
+use Rattle.prefixes.proofs.Single.{Single}
 use Rattle.tables.specs.declared.Sought.{Sought}
 use Rattle.tables.specs.declared.Sought.the-variants.{At, Nowhere}
 use Rattle.tables.specs.Tables.{entryIs, lookup, isThere, Entries, KernelFine}
 use Rattle.tables.proofs.Which.{IsLabel, label-or-not, label-row}
 use Rattle.tables.specs.Held.{HoldsLabels}
 
--- ---- the search, from the back
-abbrev orSought : Sought → Sought → Sought
-orSought (At p) other = At p
-orSought Nowhere other = other
-
-or-pick : (t : Bool) (p : ℕ) (y z : Sought) → cond t (At p) (orSought y z) ≡ orSought (cond t (At p) y) z
-or-pick true p y z = refl
-or-pick false p y z = refl
-
-or-none : (f : Sought) → f ≡ orSought f Nowhere
-or-none (At p) = refl
-or-none Nowhere = refl
-
-plus-suc : (k n : ℕ) → suc k + n ≡ k + suc n
-plus-suc k n = omega arith
-
-plus-zero : (k : ℕ) → k ≡ k + 0
-plus-zero k = omega arith
-
-zero-plus : (k : ℕ) → 0 + k ≡ k
-zero-plus k = omega arith
-
-module _ (names ls : List ℕ) (a b : ℕ) where
-  abbrev hit : ℕ → Sought
-  hit k = cond (entryIs names ls a b k) (At (getD ls (3 * k + 2) 0)) Nowhere
-
-  lookup-last : (n k : ℕ) → lookup names ls a b (suc n) k ≡ orSought (lookup names ls a b n k) (hit (k + n))
-  lookup-last zero k = ap hit (plus-zero k)
-  lookup-last (suc n) k =
-      ap (λ (f : Sought). cond (entryIs names ls a b k) (At (getD ls (3 * k + 2) 0)) f) (lookup-last n (suc k) ∙ ap (λ (y : ℕ). orSought (lookup names ls a b n (suc k)) (hit y)) (plus-suc k n))
-      ∙ or-pick (entryIs names ls a b k) (getD ls (3 * k + 2) 0) (lookup names ls a b n (suc k)) (hit (k + suc n))
-
--- ---- the address of the row that was found
+-- the address of the row that was found
 abbrev pub placed : (ℕ → Coded) → Found → Sought
 placed it (at row) = At (address it row)
 placed it nothing = Nowhere
 
-pub there-is : (it : ℕ → Coded) (f : Found) → isThere (placed it f) ≡ isFound f
+there-is : (it : ℕ → Coded) (f : Found) → isThere (placed it f) ≡ isFound f
 there-is it (at row) = refl
 there-is it nothing = refl
 
-or-placed : (it : ℕ → Coded) (f : Found) (t : Bool) (i : ℕ) → orSought (placed it f) (cond t (At (address it i)) Nowhere) ≡ placed it (cond (isFound f) f (cond t (at i) nothing))
-or-placed it (at row) t i = refl
-or-placed it nothing true i = refl
-or-placed it nothing false i = refl
+pick-placed : (it : ℕ → Coded) (t : Bool) (i : ℕ) (f : Found) → cond t (At (address it i)) (placed it f) ≡ placed it (cond t (at i) f)
+pick-placed it true i f = refl
+pick-placed it false i f = refl
 
 module _ (k : Kernel) (n : ℕ) (T : List ℕ) (held : HoldsLabels (k .it) n T) where
   abbrev it : ℕ → Coded
   it = k .it
 
   module _ (a b : ℕ) where
+    abbrev bearing : ℕ → Bool
+    bearing q = bears (k .names) a b (it q)
+
     abbrev Here : ℕ → Type 0
-    Here i = lookup (k .names) T a b (total isLabel it i) 0 ≡ placed it (labelled k a b i)
+    Here i = lookup (k .names) T a b (total isLabel it i) ≡ placed it (newest bearing i)
 
     other : (i : ℕ) → isLabel (it i) ≡ 0 → Here i → Here (suc i)
     other i z h =
-        let e : bears (k .names) a b (it i) ≡ false = rw z refl in
-        ap (λ (y : ℕ). lookup (k .names) T a b y 0) (let w : total isLabel it i + isLabel (it i) ≡ total isLabel it i = omega arith in w) ∙ h ∙ or-none (placed it (labelled k a b i))
-        ∙ ap (λ (t : Bool). orSought (placed it (labelled k a b i)) (cond t (At (address it i)) Nowhere)) (sym e)
-        ∙ or-placed it (labelled k a b i) (bears (k .names) a b (it i)) i
+        let e : bearing i ≡ false = rw z refl in
+        ap (lookup (k .names) T a b) (let w : total isLabel it i + isLabel (it i) ≡ total isLabel it i = omega arith in w) ∙ h
+        ∙ ap (placed it) (sym (pick-false (bearing i) (at i) (newest bearing i) e))
 
     label : (i : ℕ) → i < n → IsLabel (it i) → Here i → Here (suc i)
     label i u y h =
@@ -84,17 +55,24 @@ module _ (k : Kernel) (n : ℕ) (T : List ℕ) (held : HoldsLabels (k .it) n T) 
         let t = total isLabel it i in
         let one : isLabel (it i) ≡ 1 = ap isLabel e in
         let g = held i (y .start) (y .len) u e in
-        let v : hit (k .names) T a b t ≡ cond (bears (k .names) a b (it i)) (At (address it i)) Nowhere = rw (g .start, g .len, g .address, e) refl in
-        ap (λ (y : ℕ). lookup (k .names) T a b y 0) (let w : t + isLabel (it i) ≡ suc t = omega arith in w) ∙ lookup-last (k .names) T a b t 0
-        ∙ ap (λ (y : ℕ). orSought (lookup (k .names) T a b t 0) (hit (k .names) T a b y)) (zero-plus t)
-        ∙ ap (λ (y : Sought). orSought y (hit (k .names) T a b t)) h
-        ∙ ap (orSought (placed it (labelled k a b i))) v
-        ∙ or-placed it (labelled k a b i) (bears (k .names) a b (it i)) i
+        let v : entryIs (k .names) T a b t ≡ bearing i = rw (g .start, g .len, e) refl in
+        ap (lookup (k .names) T a b) (let w : t + isLabel (it i) ≡ suc t = omega arith in w)
+        ∙ ap (λ (s : Bool). cond s (At (getD T (3 * t + 2) 0)) (lookup (k .names) T a b t)) v
+        ∙ ap (λ (p : ℕ). cond (bearing i) (At p) (lookup (k .names) T a b t)) (g .address)
+        ∙ ap (cond (bearing i) (At (address it i))) h
+        ∙ pick-placed it (bearing i) i (newest bearing i)
 
-    -- among the labels before i, in a table of n rows
-    pub lookup-is : (i : ℕ) → i ≤ n → lookup (k .names) T a b (total isLabel (k .it) i) 0 ≡ placed (k .it) (labelled k a b i)
-    lookup-is zero h = refl
-    lookup-is (suc i) h = let r = lookup-is i (omega arith) in ⊎-elim (λ z. other i z r) (λ y. label i h y r) (label-or-not (it i))
+    -- the newest entry of a name is that of the newest row
+    newest-entry : (i : ℕ) → i ≤ n → Here i
+    newest-entry zero h = refl
+    newest-entry (suc i) h = let r = newest-entry i (omega arith) in ⊎-elim (λ z. other i z r) (λ y. label i h y r) (label-or-not (it i))
+
+    -- whether there is a label of the name, and, where names are single, its address
+    pub lookup-there : isThere (lookup (k .names) T a b (total isLabel (k .it) n)) ≡ isFound (labelled k a b n)
+    lookup-there = ap isThere (newest-entry n (omega arith)) ∙ there-is it (newest bearing n) ∙ newest-found bearing n
+
+    pub lookup-is : Single k n → lookup (k .names) T a b (total isLabel (k .it) n) ≡ placed (k .it) (labelled k a b n)
+    lookup-is single = newest-entry n (omega arith) ∙ ap (placed it) (newest-earliest bearing n (single a b))
 
   -- every entry is the range of a name
   pub entries-in : KernelFine k → Entries (k .names) T (total isLabel (k .it) n)

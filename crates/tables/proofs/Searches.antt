@@ -1,21 +1,18 @@
--- A comparison comes to what its first bytes come to, once the last ones are the same; a search that has passed k entries
--- without an answer comes to what the search from entry k on comes to.
+-- A comparison comes to what its first bytes come to, once the last ones are the same; a search comes to what the search of the first
+-- entries comes to, once the newer ones have another name.
 use mathlib.Core.Path.{_≡_, refl, ap, _∙_}
 use mathlib.Core.Bool.{Bool, true, false, _&&_}
 use mathlib.Core.List.{List}
 use Prim.Native.Nat.{ℕ, zero, suc, _+_, _-_, _*_, _<_}
 use native.Mathlib.Omega.{arith}
 use native.Mathlib.Nat.{add-zero}
-use native.Mathlib.Numerals.{add-one}
 use lib.Dec.{eqb}
 use lib.ListN.{length, getD}
 use borrow.Author.Tests.{eq-eqb, ne-eqb}
 use Rattle.places.specs.Looking.{sameFrom}
+use Rattle.prefixes.proofs.Looking.{pick-true, pick-false}
 use Rattle.tables.specs.Tables.{entryIs, lookup}
 use Rattle.tables.specs.declared.Sought.the-variants.{At}
-
-peel : (n k : ℕ) → k < n → n - k ≡ suc (n - (k + 1))
-peel n k h = omega arith
 
 up : (a k : ℕ) → a + suc k ≡ suc a + k
 up a k = omega arith
@@ -43,12 +40,12 @@ module _ (ns : List ℕ) (a b k : ℕ) (more : 0 < k) where
   pub same-less : (getD ns (a + (k - 1)) 0 ≡ getD ns (b + (k - 1)) 0 → ⊥) → sameFrom ns k a b ≡ false
   same-less e = ap (λ n. sameFrom ns n a b) (less k more) ∙ last-other ns (k - 1) a b e
 
-module _ (ns ls : List ℕ) (a b n k : ℕ) (more : k < n) where
-  pub find-hit : entryIs ns ls a b k ≡ true → lookup ns ls a b (n - k) k ≡ At (getD ls (3 * k + 2) 0)
-  find-hit e = rw (peel n k more, e)
+module _ (ns ls : List ℕ) (a b k : ℕ) (more : 0 < k) where
+  pub find-hit : entryIs ns ls a b (k - 1) ≡ true → lookup ns ls a b k ≡ At (getD ls (3 * (k - 1) + 2) 0)
+  find-hit e = ap (lookup ns ls a b) (less k more) ∙ pick-true _ _ _ e
 
-  pub find-more : entryIs ns ls a b k ≡ false → lookup ns ls a b (n - k) k ≡ lookup ns ls a b (n - (k + 1)) (k + 1)
-  find-more e = rw (peel n k more, e, add-one)
+  pub find-more : entryIs ns ls a b (k - 1) ≡ false → lookup ns ls a b k ≡ lookup ns ls a b (k - 1)
+  find-more e = ap (lookup ns ls a b) (less k more) ∙ pick-false _ _ _ e
 
 -- an entry of another length; one of the same
 module _ (ns ls : List ℕ) (a b k : ℕ) where

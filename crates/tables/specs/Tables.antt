@@ -1,12 +1,12 @@
 -- An instrument of the build's proof: the label table searched by name, and the front of a table wiped.
-use mathlib.Core.Bool.{Bool, true, false, cond, _&&_}
+use mathlib.Core.Bool.{Bool, true, false, _&&_}
 use mathlib.Core.List.{List, _++_}
-use Prim.Native.Nat.{ℕ, zero, suc, _+_, _*_, _≤_, _<_}
+use Prim.Native.Nat.{ℕ, _+_, _*_, _≤_, _<_}
 use lib.ListN.{length, getD, drop, replicate}
 use lib.Dec.{eqb}
 use Rattle.coded.specs.Fine.{CodedFine}
 use Rattle.places.specs.Items.{Kernel, labelWidth}
-use Rattle.places.specs.Looking.{sameFrom}
+use Rattle.places.specs.Looking.{latest, sameFrom}
 use Rattle.tables.specs.declared.Sought.{Sought}
 use Rattle.tables.specs.declared.Sought.the-variants.{At, Nowhere}
 
@@ -14,10 +14,9 @@ use Rattle.tables.specs.declared.Sought.the-variants.{At, Nowhere}
 abbrev pub entryIs : List ℕ → List ℕ → ℕ → ℕ → ℕ → Bool
 entryIs ns ls start len k = eqb (getD ls (labelWidth * k + 1) 0) len && sameFrom ns len (getD ls (labelWidth * k) 0) start
 
--- the address of the first of n entries from the k-th on that has the name
-abbrev pub lookup : List ℕ → List ℕ → ℕ → ℕ → ℕ → ℕ → Sought
-lookup ns ls start len zero k = Nowhere
-lookup ns ls start len (suc n) k = cond (entryIs ns ls start len k) (At (getD ls (labelWidth * k + 2) 0)) (lookup ns ls start len n (suc k))
+-- the address of the newest of n entries that has the name
+abbrev pub lookup : List ℕ → List ℕ → ℕ → ℕ → ℕ → Sought
+lookup ns ls start len n = latest (entryIs ns ls start len) (λ k. At (getD ls (labelWidth * k + 2) 0)) Nowhere n
 
 abbrev pub isThere : Sought → Bool
 isThere (At p) = true

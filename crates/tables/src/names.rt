@@ -37,17 +37,19 @@ fn entry_is(names: &[u8], labels: &[u32], k: usize, start: usize, len: usize) ->
     same(names, other, start, len)
 }
 
-// The address of the oldest of `count` label entries that has the name at `start` of length `len`.
+// The address of the newest of `count` label entries that has the name at `start` of length `len`: most jumps go to the label bound
+// most recently.
 pub fn find(names: &[u8], labels: &[u32], count: usize, start: usize, len: usize) -> Sought
     requires { ⌜ (labelWidth * count ≤ length (now labels)) × (start + len ≤ length (now names)) × Entries (now names) (now labels) count ⌝ }
-    ensures { λ r. ⌜ r ≡ lookup (now (names .entry)) (now (labels .entry)) start len count 0 ⌝ }
+    ensures { λ r. ⌜ r ≡ lookup (now (names .entry)) (now (labels .entry)) start len count ⌝ }
 {
-    let mut k = 0;
-    while k < count {
-        if entry_is(names, labels, k, start, len) {
-            return Sought::At(labels[LABEL_WIDTH * k + 2]);
+    let mut k = count;
+    while 0 < k {
+        let last = k - 1;
+        if entry_is(names, labels, last, start, len) {
+            return Sought::At(labels[LABEL_WIDTH * last + 2]);
         }
-        k += 1;
+        k = last;
     }
     Sought::Nowhere
 }

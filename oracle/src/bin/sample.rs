@@ -1,11 +1,12 @@
 //! Prints the stored samples: rows for `oracle rows`, lists for `oracle lists`, inputs of the bench
-//! program for `oracle benches`; and a kernel of the kind that is timed.
+//! program for `oracle benches`; and the kernels that are timed.
 
 use std::io::{self, BufWriter, Write};
 use std::process::ExitCode;
 
 use visa_oracle::bench;
-use visa_oracle::kernels;
+use visa_oracle::kernels::{self, Target};
+use visa_oracle::list::List;
 use visa_oracle::random::Random;
 use visa_oracle::row;
 use visa_oracle::sample_benches;
@@ -13,7 +14,7 @@ use visa_oracle::sample_lists;
 use visa_oracle::sample_rows;
 
 const USAGE: &str = "usage: sample rows  |  sample lists  |  sample benches [KERNEL-FILE...]
-       sample kernel ITEMS";
+       sample kernel ITEMS [EVERY]  |  sample labels newest|oldest|random|latest";
 
 fn main() -> ExitCode {
     let words: Vec<String> = std::env::args().skip(1).collect();
@@ -21,7 +22,9 @@ fn main() -> ExitCode {
         ["rows"] => Ok(rows()),
         ["lists"] => Ok(sample_lists::sample()),
         ["benches", files @ ..] => benches(files),
-        ["kernel", items] => kernel(items),
+        ["kernel", items] => kernel(items, kernels::SPARSE),
+        ["kernel", items, every] => number(every).and_then(|every| kernel(items, every)),
+        ["labels", target] => labels(target),
         _ => Err(USAGE.to_string()),
     };
     match text.and_then(|text| print(&text)) {
@@ -53,9 +56,22 @@ fn benches(files: &[&str]) -> Result<Vec<u8>, String> {
     Ok(inputs.iter().flat_map(|input| bench::ended(input)).collect())
 }
 
-/// The lines of a kernel of so many items.
-fn kernel(items: &str) -> Result<Vec<u8>, String> {
-    let items: usize = items.parse().map_err(|_| USAGE.to_string())?;
-    let list = kernels::kernel(&mut Random::new(1, items as u64), items, kernels::SPARSE);
-    Ok(list.rows().flat_map(|row| [list.write_line(row), b"\n".to_vec()].concat()).collect())
+/// The lines of a kernel of so many items, one block in `every` with a label and a jump.
+fn kernel(items: &str, every: usize) -> Result<Vec<u8>, String> {
+    let items = number(items)?;
+    Ok(lines(&kernels::kernel(&mut Random::new(1, items as u64), items, every)))
+}
+
+fn number(word: &str) -> Result<usize, String> {
+    word.parse().ok().filter(|&number| number > 0).ok_or_else(|| USAGE.to_string())
+}
+
+/// The lines of a list of as many labels and jumps as there may be.
+fn labels(target: &str) -> Result<Vec<u8>, String> {
+    let target = Target::ALL.into_iter().find(|one| one.name() == target);
+    Ok(lines(&kernels::labels(&mut Random::new(1, 0), target.ok_or(USAGE)?)))
+}
+
+fn lines(list: &List) -> Vec<u8> {
+    list.rows().flat_map(|row| [list.write_line(row), b"\n".to_vec()].concat()).collect()
 }

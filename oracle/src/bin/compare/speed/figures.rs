@@ -4,7 +4,7 @@ use std::hint::black_box;
 
 use lhodrupesh::{c, plain};
 use visa_oracle::cases::Lengths;
-pub use visa_oracle::kernels::SPARSE;
+use visa_oracle::kernels::{self, Target, SPARSE};
 use visa_oracle::linked::whole::OfC;
 use visa_oracle::list::List;
 use visa_oracle::random::Random;
@@ -12,7 +12,6 @@ use visa_oracle::row::{Row, WIDTH};
 use visa_oracle::same::{port, rust};
 
 use super::clock::{self, Contender, Contest};
-use super::inputs::{self, Target};
 
 pub const PORT: &str = "the port";
 pub const PLAIN: &str = "the plain engine";
@@ -91,7 +90,7 @@ pub fn fewer(runs: u64) -> u64 {
 /// Rows at random, and the same rows sorted by kind: what the processor can foresee.
 fn one_instruction(random: &mut Random, runs: u64) -> Vec<(&'static str, Contest)> {
     say("one instruction");
-    let mixed: Vec<Row> = (0..ITEMS / 10).map(|_| inputs::instruction(random)).collect();
+    let mixed: Vec<Row> = (0..ITEMS / 10).map(|_| kernels::instruction(random)).collect();
     let mut sorted = mixed.clone();
     sorted.sort_by_key(|row| row[0]);
     vec![("kinds at random", ones(runs, &mixed)), ("the same rows by kind", ones(runs, &sorted))]
@@ -116,7 +115,7 @@ fn ones(runs: u64, rows: &[Row]) -> Contest {
 fn kernels(random: &mut Random, runs: u64, items: usize, every: usize) -> Kernels {
     say(&format!("kernels of {items} items"));
     let count = (ITEMS / items).max(1);
-    let lists: Vec<List> = (0..count).map(|_| inputs::kernel(random, items, every)).collect();
+    let lists: Vec<List> = (0..count).map(|_| kernels::kernel(random, items, every)).collect();
     let labels = lists[0].rows().filter(|row| row[0] == 48).count();
     let runs = if items > ITEMS { fewer(runs) } else { runs };
     Kernels { items, labels, contest: builds(runs, &lists) }
@@ -124,7 +123,7 @@ fn kernels(random: &mut Random, runs: u64, items: usize, every: usize) -> Kernel
 
 fn labels(random: &mut Random, runs: u64, target: Target) -> Contest {
     say(&format!("jumps to the {} label", target.name()));
-    builds(fewer(runs), &[inputs::labels(random, target)])
+    builds(fewer(runs), &[kernels::labels(random, target)])
 }
 
 /// The build of these lists: the port's by either engine, the Rust's with and without construction,
@@ -194,7 +193,7 @@ fn bytes(random: &mut Random, runs: u64) -> Contest {
 fn back(random: &mut Random, runs: u64, items: usize) -> Back {
     say(&format!("reading back kernels of {items} items"));
     let count = (ITEMS / items).max(1);
-    let lists: Vec<List> = (0..count).map(|_| inputs::kernel(random, items, SPARSE)).collect();
+    let lists: Vec<List> = (0..count).map(|_| kernels::kernel(random, items, SPARSE)).collect();
     let mut buffers = Buffers::for_lists(&lists);
     let built: Vec<Vec<u16>> = lists.iter().map(|list| buffers.parcels(list)).collect();
     let parcels = built.iter().map(Vec::len).sum();

@@ -5,12 +5,12 @@ use std::process::Command;
 use std::{env, fs, thread};
 
 use lhodrupesh::c;
+use visa_oracle::kernels::{self, SPARSE};
 use visa_oracle::random::Random;
 use visa_oracle::row::WIDTH;
 use visa_oracle::same::rust;
 
-use super::figures::{Buffers, SPARSE};
-use super::inputs;
+use super::figures::Buffers;
 
 /// The items of the kernel that is built.
 pub const ITEMS: usize = 1_000_000;
@@ -65,7 +65,7 @@ pub fn measure(what: What) -> usize {
 /// How much more than its rows a build of a long kernel takes at its peak. The port's buffers are
 /// lent, and take memory where they are written to.
 fn peak(what: What) -> usize {
-    let lists = [inputs::kernel(&mut Random::new(1, 0), ITEMS, SPARSE)];
+    let lists = [kernels::kernel(&mut Random::new(1, 0), ITEMS, SPARSE)];
     let mut buffers = Buffers::for_lists(&lists);
     forget_highest();
     let before = resident();
@@ -111,7 +111,7 @@ fn stack() -> usize {
 }
 
 fn depths() -> Vec<usize> {
-    let list = inputs::kernel(&mut Random::new(1, 0), ITEMS / 10, SPARSE);
+    let list = kernels::kernel(&mut Random::new(1, 0), ITEMS / 10, SPARSE);
     let lists = [list];
     let mut buffers = Buffers::for_lists(&lists);
     let mut bytes = [0; 64];

@@ -2,7 +2,6 @@
 
 mod clock;
 mod figures;
-mod inputs;
 mod memory;
 mod plot;
 mod report;

@@ -36,13 +36,14 @@ the thread, so that other work on the machine is not in them, in nanoseconds an 
   calls the build.
 - **memcpy of the rows** is the floor: 68 bytes an item, read and written.
 - Kernels: blocks of 40 items, each with a loop of 14 instructions and 22 to 24 others of all kinds at random; one block in ten has a label and a jump
-  back to it. A round builds 40,000 items or more: 1,000 kernels of 40, 100 of 400, 4 of 10,000, one of 1,000,000.
+  back to it, the latest before the jump. A round builds 40,000 items or more: 1,000 kernels of 40, 100 of 400, 4 of 10,000, one of 1,000,000.
 ";
 
 const LABELS: &str = "\
-The port searches the label entries in turn, oldest first, for each jump, and for each label too, since a second one of its name is refused; the
-Rust looks a name up in a hash map. A list has at most 4,096 labels and 4,096 jumps, so the search is bounded, and a kernel of few labels does not
-feel it. Names here are of one length and differ in their last bytes (`label_0000` on).
+The port searches the label entries in turn, newest first, for each jump, and for each label too, since a second one of its name is refused; the
+Rust looks a name up in a hash map. Jumps are settled once every row is taken: a jump to the latest label passes the labels that were bound after it. A
+list has at most 4,096 labels and 4,096 jumps, so the search is bounded, and a kernel of few labels does not feel it. Names here are of one length and
+differ in their last bytes (`label_0000` on).
 ";
 
 const BEHIND: &str = "\
@@ -157,7 +158,7 @@ fn one(figures: &Figures) -> String {
 
 fn labels(figures: &Figures) -> String {
     let mut text = "## 4,096 labels and 4,096 jumps\n\n".to_string();
-    text += "Nanoseconds an item, of 12,288: labels with an instruction after each, then the jumps.\n\n";
+    text += "Nanoseconds an item, of 12,288: labels with an instruction after each, then the jumps; to the latest, each jump stands behind its label's instruction.\n\n";
     text += "| Jumps to the label | The port | The Rust from rows | Ratio | The Rust's `parcels()` | Ratio |\n|---|---|---|---|---|---|\n";
     for (target, contest) in &figures.labels {
         text += &format!(
