@@ -7,7 +7,7 @@ ORACLE := target/oracle
 # What runs a program for x86-64: nothing on such a machine, `tools/run` on another.
 X86_64 := $(if $(filter x86_64,$(shell uname -m)),,sh tools/run)
 
-.PHONY: help run readback test docs walks docs-check oracle sample link compare compare-short check-memory speed
+.PHONY: help run readback widen test docs walks docs-check oracle sample link compare compare-short check-memory speed
 
 help: ## this list
 	@sed -n 's/^\([a-z-]*\):.*## \(.*\)/make \1|\2/p' Makefile | column -t -s '|'
@@ -19,6 +19,11 @@ run: ## build the bench program and run it on KERNEL (default: examples/branch.k
 readback: ## build the program readback and run it on PARCELS (default: examples/branch.parcels)
 	@rt check readback
 	@sh tools/run target/bin/readback < $(PARCELS)
+
+widen: KERNEL := examples/sum.kernel
+widen: ## build the program widen and run it on KERNEL (default: examples/sum.kernel): the list with loop tails at full width, and what was changed
+	@rt check widen
+	@sh tools/run target/bin/widen < $(KERNEL)
 
 test: ## the verdict: prove every crate from nothing, try the must-fail edits, run the programs
 	@rt ci
@@ -40,7 +45,7 @@ docs-check: ## check that the documents, and the printed proofs, are what the de
 	@python3 tools/believed --check
 	@python3 tools/map --check
 	@mkdir -p target
-	@rt check bench readback layouts engines >target/docs-check.log || { tail -n 5 target/docs-check.log; exit 1; }
+	@rt check bench readback widen layouts engines >target/docs-check.log || { tail -n 5 target/docs-check.log; exit 1; }
 	@python3 tools/examples
 	@python3 tools/engines --check
 
@@ -53,7 +58,7 @@ link: ## prove the library and write target/staticlib/liblink.a
 sample: oracle ## make the stored answers of the original Rust anew
 	@sh oracle/store
 
-compare: link ## hold the port against the original Rust: rows, lists by both engines, parcels read back, the Rust crate and the C example, some minutes
+compare: link ## hold the port against the original Rust: rows, lists by both engines, parcels read back, tails widened, the Rust crate and the C example, some minutes
 	@sh oracle/build test
 	@LINK_LIB=target/staticlib sh oracle/build compare
 	@$(X86_64) $(ORACLE)/compare all
@@ -70,7 +75,7 @@ check-memory: link ## run the comparison on few inputs under valgrind, some minu
 	@sh include/test
 	@sh oracle/check-memory
 
-speed: link ## time both engines of the port, its reader of parcels and the original Rust, and write docs/SPEED.md and its plot; on another processor than x86-64 count instructions, a quarter of an hour
+speed: link ## time both engines of the port, its reader of parcels, its widening of tails and the original Rust, and write docs/SPEED.md and its plot; on another processor than x86-64 count instructions, a quarter of an hour
 ifeq ($(X86_64),)
 	@LINK_LIB=target/staticlib sh oracle/build compare
 	@$(ORACLE)/compare speed --write docs

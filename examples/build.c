@@ -1,8 +1,8 @@
 /*
  * Builds a small kernel through the C interface and prints its parcels and bytes, and the rows that are
- * read back from them; then one whose jump leads nowhere, and prints the refusal with its row and its
- * name. Checks the slots of delayed jumps. Builds both kernels by both engines, and compares what they
- * answer and leave.
+ * read back from them. Widens the tail of a loop, and builds what comes out. Builds a kernel whose jump
+ * leads nowhere, and prints the refusal with its row and its name. Checks the slots of delayed jumps.
+ * Builds two kernels by both engines, and compares what they answer and leave.
  */
 #include <inttypes.h>
 #include <stdio.h>
@@ -30,6 +30,15 @@ static const uint32_t astray[][LHODRUPESH_ROW] = {
     {39},           /* WideNop */
     {51},           /* loop end */
     {49, 5, 3, 3},  /* jump to "end" always */
+};
+
+/* A loop with short instructions in its tail: a build refuses it with 26. */
+static const uint32_t short_tail[][LHODRUPESH_ROW] = {
+    {50, 0, 16, 1}, /* loop start: 16 times, F1 */
+    {19, 2, 4, 6},  /* LoadDmPostModify: R2 from I4, then I4 = I4 + M6 */
+    {0, 3, 3, 2},   /* FloatAdd: F3 = F3 + F2 */
+    {38},           /* Nop */
+    {51},           /* loop end */
 };
 
 /* A delayed jump, with a label on its second slot. */
@@ -148,6 +157,34 @@ static void print_read_back(const uint32_t *rows, size_t rows_len)
     printf("; room for 2 rows: number %" PRIu32 " of %" PRId64 "\n", read.number, read.first);
 }
 
+/* Widens the tails of a list's loops: what a build answers before, what is changed, and what a build
+ * answers after; then what is refused, and what loops that don't pair give. */
+static void print_widened(const uint32_t *rows, size_t rows_len)
+{
+    struct lent lent;
+    uint32_t copy[8][LHODRUPESH_ROW];
+    uint32_t changes[8][LHODRUPESH_CHANGE];
+    struct lhodrupesh_told told = build(lhodrupesh_build, rows, rows_len, &lent);
+    struct lhodrupesh_widened widened =
+        lhodrupesh_widen(rows, rows_len, names, sizeof names - 1, copy[0], NUMBERS(copy),
+                         changes[0], LENGTH(changes) * LHODRUPESH_CHANGE);
+
+    printf("number %" PRIu32 " at parcel %" PRId64 "; widened: %" PRIu32 " changes", told.number,
+           told.first, widened.changes);
+    for (uint32_t change = 0; change < widened.changes; change++)
+        printf(", row %" PRIu32 " of kind %" PRIu32, changes[change][0], changes[change][1]);
+    told = build(lhodrupesh_build, copy[0], rows_len, &lent);
+    printf("; then number %" PRIu32 ", %" PRIu32 " parcels\n", told.number, told.count);
+
+    widened = lhodrupesh_widen(rows, rows_len, names, sizeof names - 1, copy[0], NUMBERS(copy),
+                               changes[0], LHODRUPESH_CHANGE);
+    printf("room for 1 change: number %" PRIu32 " of %" PRId64, widened.number, widened.first);
+    widened = lhodrupesh_widen(rows, rows_len - LHODRUPESH_ROW, names, sizeof names - 1, copy[0],
+                               NUMBERS(copy), changes[0], 0);
+    printf("; without its end: number %" PRIu32 ", %" PRIu32 " changes, loops %s\n", widened.number,
+           widened.changes, widened.paired ? "pair" : "don't pair");
+}
+
 /* By both engines, over memory that holds the same before. */
 static void print_engines(const uint32_t *rows, size_t rows_len)
 {
@@ -181,6 +218,7 @@ int main(void)
     print_counts(count_down[0], NUMBERS(count_down));
     print_counts(astray[0], NUMBERS(astray));
     print_read_back(count_down[0], NUMBERS(count_down));
+    print_widened(short_tail[0], NUMBERS(short_tail));
     print_built(astray[0], NUMBERS(astray));
     print_slots(labelled_slot[0], NUMBERS(labelled_slot));
     print_slots(broken_slot[0], NUMBERS(broken_slot));

@@ -9,8 +9,8 @@
  * to this, and to nothing else:
  *   - the pointer isn't NULL and is aligned for its elements, also where the length is 0;
  *   - so many elements lie there, and nobody else writes to them during the call;
- *   - what a call writes to (parcels, labels, jumps, loops; bytes; rows, places) overlaps no other
- *     slice of it.
+ *   - what a call writes to (parcels, labels, jumps, loops; bytes; rows, places; copy, changes)
+ *     overlaps no other slice of it.
  * What is lent to be written to may hold anything before.
  *
  * ROWS. A row is seventeen numbers: a kind, then the fields, then zeros. Signed fields are two's
@@ -24,8 +24,8 @@
  * doesn't name are 0. Rows and parcels are numbered from 0. The third detail says which row a call on a
  * list refuses: the refused row itself, so the loop end for 20 to 22 and 24 to 26, and the second of two
  * labels for 11; for 23 the innermost loop start that is still open; for 12, and for 9 of a jump to a
- * label, the jump; for 33 the jump again. It is 0 for 1, and in the calls that take no list, so for 34,
- * 35 and 36 too.
+ * label, the jump; for 33 the jump again. It is 0 for 1 and for 36, and in the calls that take no list,
+ * so for 34 and 35 too.
  *
  * The third detail stands after the other details of each answer, and moved what follows: a program
  * that was compiled with a header without it has to be compiled anew.
@@ -40,10 +40,12 @@
 extern "C" {
 #endif
 
-/* The numbers of a row, of a label entry (start, length, place) and of a waiting jump (place, row). */
+/* The numbers of a row, of a label entry (start, length, place), of a waiting jump (place, row) and of
+ * a change (row, old kind). */
 #define LHODRUPESH_ROW 17
 #define LHODRUPESH_LABEL_ENTRY 3
 #define LHODRUPESH_JUMP_ENTRY 2
+#define LHODRUPESH_CHANGE 2
 
 /* The most that a call uses, whatever is lent. */
 #define LHODRUPESH_MOST_ROWS 4194304
@@ -98,6 +100,19 @@ struct lhodrupesh_rows {
     int64_t third;   /* 0 */
     uint32_t number; /* 0: accepted. 35: no known form starts there. 36: no room for another row */
     uint32_t spare;  /* 0 */
+};
+
+/* What widening answers. */
+struct lhodrupesh_widened {
+    uint32_t number;  /* 0: accepted. 1; 2, 4, 17, 18, 19 of a row; 36: no room in the copy or in the
+                         changes. Nothing is written in a refusal */
+    uint32_t changes; /* accepted: how many rows were changed. Refused: 0 */
+    int64_t first;    /* the refusal's first detail; 36: the room, in rows or in changes */
+    int64_t second;   /* the refusal's second detail */
+    int64_t third;    /* the row that a row refusal is about; 0 in 1 and 36 */
+    uint32_t paired;  /* accepted: 1 if loops pair; 0 if they don't, and then no row was changed.
+                         Refused: 0 */
+    uint32_t spare;   /* 0 */
 };
 
 /*
@@ -198,6 +213,29 @@ struct lhodrupesh_written lhodrupesh_bytes(const uint16_t *parcels, size_t parce
 struct lhodrupesh_rows lhodrupesh_read_back(const uint16_t *parcels, size_t parcels_len,
                                             uint32_t *rows, size_t rows_len,
                                             uint64_t *places, size_t places_len);
+
+/*
+ * Widens loop tails, the usual cure of refusal 26: copies the rows and, in the last 11 instructions of
+ * each loop body, turns Nop (38) into WideNop (39), and a DM move with post-modify or pre-modify (19 to
+ * 22) into a memory move without compute (34) of the same direction, register, index, modifier and
+ * update. Only rows that encode are changed. All else stays: kinds 16, 23 and 24 too, although they may
+ * be short, so that 26 can remain. A list that the build accepts comes back unchanged. The instructions
+ * are counted as the build counts them: loop starts, jumps, branches and rows that don't encode count,
+ * labels and loop ends don't. Every loop of a list whose loops pair is treated, however deep, also one
+ * that the build refuses for another reason; if loops don't pair, the rows are copied as they are.
+ *   rows, rows_len         the row slice. Not a multiple of 17, or over the limit: refusal 1
+ *   names, names_len       the names that the rows' ranges lie in
+ *   copy, copy_len         room for rows: the length over 17, rounded down
+ *   changes, changes_len   room for changes: the length over 2, rounded down
+ *
+ * Accepted: the rows stand at the front of the copy, each changed row with its old kind, in row order,
+ * at the front of the changes. Refused: 1; then the first row refusal (2, 4, 17 to 19); then 36 when the
+ * copy, and then when the changes have no room. Nothing is written then. All else is unchanged.
+ */
+struct lhodrupesh_widened lhodrupesh_widen(const uint32_t *rows, size_t rows_len,
+                                           const uint8_t *names, size_t names_len,
+                                           uint32_t *copy, size_t copy_len,
+                                           uint32_t *changes, size_t changes_len);
 
 #ifdef __cplusplus
 }

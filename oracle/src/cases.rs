@@ -169,34 +169,34 @@ pub fn second(case: &Case) -> (Told, Buffers) {
 }
 
 impl Case {
-    /// The rows as lines of numbers, equal neighbours once; the names; what is lent.
+    /// The list and what is lent.
     pub fn text(&self) -> String {
-        const SHOWN: usize = 100;
-        let rows: Vec<&Row> = self.list.rows().collect();
-        let mut text = String::new();
-        let mut number = 0;
-        for equal in rows.chunk_by(|a, b| a == b).take(SHOWN) {
-            text += &line(number, equal);
-            number += equal.len();
-        }
-        if number < rows.len() {
-            text += &format!("  and {} rows more\n", rows.len() - number);
-        }
-        text + &self.lent_text()
-    }
-
-    fn lent_text(&self) -> String {
-        let List { numbers, names: bytes } = &self.list;
         let Lengths { parcels, labels, jumps, loops } = self.lengths;
-        let after = numbers.chunks_exact(WIDTH).remainder();
-        let after = if after.is_empty() { String::new() } else { format!(", the last {after:?}") };
+        let list = list_text(&self.list);
         format!(
-            "  numbers: {}{after}\n  names: {}\n  lent: {parcels} parcels, {labels} numbers for \
-             labels, {jumps} for jumps, {loops} loop records\n",
-            numbers.len(),
-            names(bytes),
+            "{list}  lent: {parcels} parcels, {labels} numbers for labels, {jumps} for jumps, {loops} \
+             loop records\n",
         )
     }
+}
+
+/// The rows as lines of numbers, equal neighbours once; how many numbers; the names.
+pub fn list_text(list: &List) -> String {
+    const SHOWN: usize = 100;
+    let rows: Vec<&Row> = list.rows().collect();
+    let mut text = String::new();
+    let mut number = 0;
+    for equal in rows.chunk_by(|a, b| a == b).take(SHOWN) {
+        text += &line(number, equal);
+        number += equal.len();
+    }
+    if number < rows.len() {
+        text += &format!("  and {} rows more\n", rows.len() - number);
+    }
+    let after = list.numbers.chunks_exact(WIDTH).remainder();
+    let after = if after.is_empty() { String::new() } else { format!(", the last {after:?}") };
+    let count = list.numbers.len();
+    text + &format!("  numbers: {count}{after}\n  names: {}\n", names(&list.names))
 }
 
 /// The names in quotes; of long ones only the front.

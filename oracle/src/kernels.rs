@@ -14,6 +14,8 @@ pub const SPARSE: usize = 10;
 const BODY: usize = 14;
 /// Full-width kinds that stay.
 const WIDE: [u32; 12] = [0, 8, 9, 12, 17, 18, 27, 32, 33, 34, 37, 39];
+/// Short kinds that are widened in a tail.
+const SHORT: [u32; 5] = [19, 20, 21, 22, 38];
 
 /// A row of an instruction, of any kind that encodes.
 pub fn instruction(random: &mut Random) -> Row {
@@ -24,17 +26,28 @@ pub fn instruction(random: &mut Random) -> Row {
 /// A kernel of so many items, in blocks of 40: each has a loop, and one block in `every`, the first
 /// one too, a label and a jump back to it, up to the limit.
 pub fn kernel(random: &mut Random, items: usize, every: usize) -> List {
+    blocks(random, items, every, &WIDE)
+}
+
+/// The same with short instructions in the loops' bodies: a build takes it once the tails, eleven of each
+/// fourteen, are widened.
+pub fn short_tails(random: &mut Random, items: usize) -> List {
+    blocks(random, items, SPARSE, &SHORT)
+}
+
+fn blocks(random: &mut Random, items: usize, every: usize, body: &[u32]) -> List {
     let mut list = List::default();
     list.numbers.reserve(row(&[]).len() * items);
     for block in 0..items / BLOCK {
         let number = block / every;
         let labelled = block % every == 0 && number < Limits::default().labels;
-        add_block(random, &mut list, labelled.then(|| name(number)));
+        add_block(random, &mut list, labelled.then(|| name(number)), body);
     }
     list
 }
 
-fn add_block(random: &mut Random, list: &mut List, label: Option<String>) {
+/// Instructions, a loop over instructions of these kinds, and instructions.
+fn add_block(random: &mut Random, list: &mut List, label: Option<String>, body: &[u32]) {
     let before = (BLOCK - BODY - 2) / 2;
     match &label {
         Some(name) => list.push_named(&[48], name.as_bytes()),
@@ -43,7 +56,7 @@ fn add_block(random: &mut Random, list: &mut List, label: Option<String>) {
     (1..before).for_each(|_| list.push(&instruction(random)));
     list.push(&row(&[50, 0, 1 + random.below(0xffff), random.below(2)]));
     for _ in 0..BODY {
-        let kind = random.pick(&WIDE);
+        let kind = random.pick(body);
         list.push(&encodes(random, kind));
     }
     list.push(&row(&[51]));

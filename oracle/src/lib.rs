@@ -29,3 +29,6 @@ pub mod search;
 pub mod second;
 pub mod shrink;
 pub mod slot_lists;
+pub mod tail_lists;
+pub mod tails;
+pub mod widening;

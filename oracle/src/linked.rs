@@ -205,3 +205,57 @@ pub mod back {
         Ok(read.map(value).collect())
     }
 }
+
+/// The port's widening of loop tails.
+pub mod tails {
+    use lhodrupesh::{c, plain, Change, VisaError, Widened};
+
+    use crate::list::List;
+    use crate::same;
+    use crate::widening::{Answer, CHANGE};
+
+    /// What a widening is called in a report, and its call.
+    pub type Widening = (&'static str, fn(&List, &mut [u32], &mut [u32]) -> Answer);
+
+    /// By the module for C and by the plain interface.
+    pub const WIDENINGS: [Widening; 2] =
+        [("widening by C", by_c), ("widening by the crate", by_crate)];
+
+    pub fn by_c(List { numbers, names }: &List, copy: &mut [u32], changes: &mut [u32]) -> Answer {
+        let c::Widened { number, changes, first, second, third, paired, spare } =
+            c::widen(numbers, names, copy, changes);
+        Answer { number, changes, first, second, third, paired, spare }
+    }
+
+    fn by_crate(List { numbers, names }: &List, copy: &mut [u32], changes: &mut [u32]) -> Answer {
+        match plain::widen(numbers, names, copy, changes) {
+            Ok(plain::Widened { changes, paired }) => Answer::accepted(changes, paired),
+            Err(refused) => {
+                let (first, second, third) = refused.details();
+                Answer { number: refused.number(), first, second, third, ..Answer::default() }
+            }
+        }
+    }
+
+    /// What the crate's types give: the kernel's rows before and after, each changed item with the kind of
+    /// its old instruction, and whether loops pair.
+    pub struct Values {
+        pub before: Vec<u32>,
+        pub after: Vec<u32>,
+        pub changes: Vec<[u32; CHANGE]>,
+        pub paired: bool,
+    }
+
+    /// The kernel of a list whose rows say items, widened by the crate's types.
+    pub fn values(list: &List) -> Result<Values, VisaError> {
+        let program = same::port::program(list).expect("rows that say items");
+        let Widened { program: after, changes, paired } = program.widened()?;
+        let change = |change: &Change| [change.item as u32, change.old.row()[0]];
+        Ok(Values {
+            before: program.rows().to_vec(),
+            after: after.rows().to_vec(),
+            changes: changes.iter().map(change).collect(),
+            paired,
+        })
+    }
+}

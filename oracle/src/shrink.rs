@@ -6,32 +6,50 @@ use crate::cases::{Case, Lengths};
 use crate::list::List;
 use crate::row::{row, Row, WIDTH};
 
+/// A list and what is lent for it.
+pub trait Shrinks: Clone {
+    fn list(&mut self) -> &mut List;
+
+    /// Lends more than the list takes.
+    fn lend_plenty(&mut self);
+}
+
+impl Shrinks for Case {
+    fn list(&mut self) -> &mut List {
+        &mut self.list
+    }
+
+    fn lend_plenty(&mut self) {
+        self.lengths = Lengths::for_list(&self.list, 16);
+    }
+}
+
 /// Shrinking stops here, however small the case is by then.
 const PATIENCE: Duration = Duration::from_secs(60);
 
 /// The case with rows left out, and others made plainer, as long as it still shows.
-pub fn smallest(case: Case, shows: impl Fn(&Case) -> bool) -> Case {
+pub fn smallest<C: Shrinks>(case: C, shows: impl Fn(&C) -> bool) -> C {
     let mut search = Search { case, shows, end: Instant::now() + PATIENCE };
     search.leave_out_rows();
     search.leave_out_names();
     search.make_rows_plain();
-    search.lend_plenty();
+    search.attempt(C::lend_plenty);
     search.case
 }
 
-struct Search<F> {
-    case: Case,
+struct Search<C, F> {
+    case: C,
     shows: F,
     end: Instant,
 }
 
-impl<F: Fn(&Case) -> bool> Search<F> {
+impl<C: Shrinks, F: Fn(&C) -> bool> Search<C, F> {
     fn is_over(&self) -> bool {
         Instant::now() >= self.end
     }
 
     /// Takes the changed case when it still shows.
-    fn attempt(&mut self, change: impl FnOnce(&mut Case)) -> bool {
+    fn attempt(&mut self, change: impl FnOnce(&mut C)) -> bool {
         if self.is_over() {
             return false;
         }
@@ -44,8 +62,8 @@ impl<F: Fn(&Case) -> bool> Search<F> {
         taken
     }
 
-    fn rows(&self) -> usize {
-        self.case.list.numbers.len().div_ceil(WIDTH)
+    fn rows(&mut self) -> usize {
+        self.case.list().numbers.len().div_ceil(WIDTH)
     }
 
     /// Halves, quarters and so on down to single rows, these until none can go.
@@ -66,16 +84,16 @@ impl<F: Fn(&Case) -> bool> Search<F> {
             if self.is_over() {
                 break;
             }
-            went |= self.attempt(|case| leave_out(&mut case.list, chunk * size, size));
+            went |= self.attempt(|case| leave_out(case.list(), chunk * size, size));
         }
         went
     }
 
     /// The last bytes of the names, which no row may need.
     fn leave_out_names(&mut self) {
-        while !self.case.list.names.is_empty() {
-            let shorter = self.case.list.names.len() - 1;
-            if !self.attempt(|case| case.list.names.truncate(shorter)) {
+        while !self.case.list().names.is_empty() {
+            let shorter = self.case.list().names.len() - 1;
+            if !self.attempt(|case| case.list().names.truncate(shorter)) {
                 return;
             }
         }
@@ -83,7 +101,7 @@ impl<F: Fn(&Case) -> bool> Search<F> {
 
     /// `WideNop` or `Nop` for a row, or zeros for its numbers.
     fn make_rows_plain(&mut self) {
-        for at in 0..self.case.list.numbers.len() / WIDTH {
+        for at in 0..self.case.list().numbers.len() / WIDTH {
             if self.is_over() {
                 return;
             }
@@ -95,20 +113,16 @@ impl<F: Fn(&Case) -> bool> Search<F> {
 
     fn replace(&mut self, at: usize, new: Row) -> bool {
         let place = at * WIDTH..(at + 1) * WIDTH;
-        self.case.list.numbers[place.clone()] == new
-            || self.attempt(|case| case.list.numbers[place].copy_from_slice(&new))
+        self.case.list().numbers[place.clone()] == new
+            || self.attempt(|case| case.list().numbers[place].copy_from_slice(&new))
     }
 
     fn clear_numbers(&mut self, at: usize) {
         for place in (at * WIDTH + 1..(at + 1) * WIDTH).rev() {
-            if self.case.list.numbers[place] != 0 {
-                self.attempt(|case| case.list.numbers[place] = 0);
+            if self.case.list().numbers[place] != 0 {
+                self.attempt(|case| case.list().numbers[place] = 0);
             }
         }
-    }
-
-    fn lend_plenty(&mut self) {
-        self.attempt(|case| case.lengths = Lengths::for_list(&case.list, 16));
     }
 }
 

@@ -110,6 +110,35 @@ pub struct Rows {
     pub spare: u32,
 }
 
+/// What widening answers: how many rows were changed and whether loops pair, or a refusal's number and
+/// its details.
+///
+/// ```
+/// let nop = [38, 0, 0, 0, 0, 0, 0, 0, 0, 0, 0, 0, 0, 0, 0, 0, 0];
+/// let widened = lhodrupesh::c::widen(&nop, &[], &mut [0; 17], &mut []);
+/// assert_eq!((widened.number, widened.changes, widened.paired), (0, 0, 1));
+/// let widened = lhodrupesh::c::widen(&nop, &[], &mut [0; 16], &mut []);
+/// assert_eq!((widened.number, widened.first), (36, 0));
+/// ```
+#[repr(C)]
+#[derive(Debug, Clone, Copy, PartialEq, Eq, Default)]
+pub struct Widened {
+    /// 0, or the refusal's number: 1, 2, 4, 17, 18, 19 or 36.
+    pub number: u32,
+    /// How many rows were changed; 0 in a refusal.
+    pub changes: u32,
+    /// The refusal's first detail, 0 where it has none; the room, in rows or in changes, in 36.
+    pub first: i64,
+    /// The refusal's second detail, 0 where it has none.
+    pub second: i64,
+    /// The row that the refusal is about, from 0; 0 in refusals 1 and 36.
+    pub third: i64,
+    /// 1 if loops pair; 0 if they don't, and in a refusal.
+    pub paired: u32,
+    /// 0.
+    pub spare: u32,
+}
+
 /// A record of the lent table of open loops. A build leaves zeros in those that it used.
 ///
 /// ```
@@ -197,6 +226,17 @@ extern "C" {
         places: *mut u64,
         places_len: usize,
     ) -> Rows;
+
+    fn lhodrupesh_widen(
+        rows: *const u32,
+        rows_len: usize,
+        names: *const u8,
+        names_len: usize,
+        copy: *mut u32,
+        copy_len: usize,
+        changes: *mut u32,
+        changes_len: usize,
+    ) -> Widened;
 }
 
 // SAFETY, of every call below: each pointer and length are those of a slice that outlives the call;
@@ -317,4 +357,23 @@ pub fn bytes(parcels: &[u16], bytes: &mut [u8]) -> Written {
 #[inline]
 pub fn read_back(parcels: &[u16], rows: &mut [u32], places: &mut [u64]) -> Rows {
     lent!(lhodrupesh_read_back(parcels; rows, places))
+}
+
+/// Copies rows with the tails of their loops widened, and lists what was changed.
+///
+/// ```
+/// // A loop over a Nop.
+/// let rows = [
+///     [50, 0, 16, 1, 0, 0, 0, 0, 0, 0, 0, 0, 0, 0, 0, 0, 0],
+///     [38, 0, 0, 0, 0, 0, 0, 0, 0, 0, 0, 0, 0, 0, 0, 0, 0],
+///     [51, 0, 0, 0, 0, 0, 0, 0, 0, 0, 0, 0, 0, 0, 0, 0, 0],
+/// ];
+/// let (mut copy, mut changes) = ([[7; 17]; 3], [7; 3]);
+/// let widened =
+///     lhodrupesh::c::widen(rows.as_flattened(), &[], copy.as_flattened_mut(), &mut changes);
+/// assert_eq!((widened.changes, copy[1][0], changes), (1, 39, [1, 38, 7]));
+/// ```
+#[inline]
+pub fn widen(rows: &[u32], names: &[u8], copy: &mut [u32], changes: &mut [u32]) -> Widened {
+    lent!(lhodrupesh_widen(rows, names; copy, changes))
 }

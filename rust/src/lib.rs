@@ -32,16 +32,18 @@
 //! assert_eq!((read.len(), read[2].place), (3, 4));
 //! ```
 //!
+//! A kernel that is refused for short instructions at the end of a loop body comes back with wide ones
+//! by [`VisaProgram::widened`].
+//!
 //! Beside them stand two more ways to the same library. [`plain`] builds rows of seventeen numbers
 //! into buffers that the caller lends, allocates nothing, and refuses with a [`plain::Refused`]; [`c`]
 //! is the C interface itself, each function behind a safe one. In both, `build_plain` is the
 //! build by the library's second engine; all else is built by the first.
 //!
-//! Parcels, counts, bytes, rows read back and refusals come from the library, which is proved; this
-//! crate, which turns values into rows and back and refusals into errors, is compared with `qc_asm` and
-//! not proved. The
-//! library is for x86-64 Linux; LINK_LIB names the folder that holds its `liblink.a` when the crate
-//! is built.
+//! Parcels, counts, bytes, rows read back, widened rows and refusals come from the library, which is
+//! proved; this crate, which turns values into rows and back and refusals into errors, is compared with
+//! `qc_asm` and not proved. The library is for x86-64 Linux; LINK_LIB names the folder that holds its
+//! `liblink.a` when the crate is built.
 
 #![deny(missing_docs, unsafe_code)]
 
@@ -59,6 +61,7 @@ mod refusal;
 mod register;
 mod row;
 mod visa;
+mod widen;
 
 pub use compute::{AluOp, Compute, FloatMulAlu};
 pub use error::{Error, ItemError, UnknownForm, VisaError};
@@ -70,3 +73,4 @@ pub use visa::{
     Condition, DataAccess, Direction, LoopCount, LoopMode, MemoryAccess, Update, VisaInstruction,
     LEAF_RETURN_PARCELS, MODE1_BDCST1, MODE1_BDCST9, MODE1_PEYEN,
 };
+pub use widen::{Change, Widened};

@@ -62,6 +62,13 @@ pub const LABEL_ENTRY: usize = 3;
 /// assert_eq!(room_for_two.len(), 4);
 /// ```
 pub const JUMP_ENTRY: usize = 2;
+/// The numbers of a change by [`widen`]: the row, its old kind.
+///
+/// ```
+/// let room_for_two = [0_u32; 2 * lhodrupesh::plain::CHANGE];
+/// assert_eq!(room_for_two.len(), 4);
+/// ```
+pub const CHANGE: usize = 2;
 /// The most rows of a list.
 ///
 /// ```
@@ -318,6 +325,68 @@ pub fn read_back(parcels: &[u16], rows: &mut [u32], places: &mut [u64]) -> Resul
     match read.number {
         0 => Ok(read.rows as usize),
         _ => Err(Refusal::rows(&read)),
+    }
+}
+
+/// What [`widen`] did.
+///
+/// ```
+/// use lhodrupesh::plain::{self, Widened};
+///
+/// let widened = plain::widen(&[], &[], &mut [], &mut []);
+/// assert_eq!(widened, Ok(Widened { changes: 0, paired: true }));
+/// ```
+#[derive(Debug, Clone, Copy, PartialEq, Eq)]
+pub struct Widened {
+    /// How many rows were changed.
+    pub changes: usize,
+    /// Whether loop starts and ends pair. If they don't, no row was changed.
+    pub paired: bool,
+}
+
+/// Copies rows to the front of the lent copy and, in the last eleven instructions of each loop body,
+/// turns `Nop` into `WideNop` and the post-modify and pre-modify DM moves (19 to 22) into a memory move
+/// without compute (34): the cure of [`Refusal::LoopTailNotFullWidth`]. The changes, in row order, stand
+/// at the front of the lent ones: the row and its old kind, [`CHANGE`] numbers each. Only rows that encode
+/// are changed; kinds 16, 23 and 24 stay, although they may be short. A list that a build accepts comes
+/// back unchanged, and so does one whose loops don't pair.
+///
+/// Refused, nothing is written. 1 and the row refusals come first, then 36 of the copy, then 36 of the
+/// changes; all else past what was written is unchanged.
+///
+/// ```
+/// use lhodrupesh::plain::{self, Refusal, Widened};
+///
+/// // A loop over a load with post-modify and a Nop.
+/// let rows = [
+///     [50, 0, 16, 1, 0, 0, 0, 0, 0, 0, 0, 0, 0, 0, 0, 0, 0],
+///     [19, 2, 4, 6, 0, 0, 0, 0, 0, 0, 0, 0, 0, 0, 0, 0, 0],
+///     [38, 0, 0, 0, 0, 0, 0, 0, 0, 0, 0, 0, 0, 0, 0, 0, 0],
+///     [51, 0, 0, 0, 0, 0, 0, 0, 0, 0, 0, 0, 0, 0, 0, 0, 0],
+/// ];
+/// let (mut copy, mut changes) = ([[7; 17]; 5], [7; 6]);
+/// let widened = plain::widen(rows.as_flattened(), &[], copy.as_flattened_mut(), &mut changes);
+/// assert_eq!(widened, Ok(Widened { changes: 2, paired: true }));
+/// assert_eq!(changes, [1, 19, 2, 38, 7, 7]);
+/// assert_eq!(copy[1], [34, 0, 0, 0, 0, 0, 0, 0, 0, 0, 2, 4, 6, 0, 0, 0, 0]);
+/// assert_eq!((copy[0], copy[2][0], copy[3], copy[4]), (rows[0], 39, rows[3], [7; 17]));
+///
+/// // Without its end the loop doesn't pair. Then there is room for one change only.
+/// let widened = plain::widen(rows[..3].as_flattened(), &[], copy.as_flattened_mut(), &mut []);
+/// assert_eq!(widened, Ok(Widened { changes: 0, paired: false }));
+/// let full = plain::widen(rows.as_flattened(), &[], copy.as_flattened_mut(), &mut changes[..3]);
+/// assert_eq!(full, Err(Refusal::NoRoomForRows(1).into()));
+/// ```
+pub fn widen(
+    rows: &[u32],
+    names: &[u8],
+    copy: &mut [u32],
+    changes: &mut [u32],
+) -> Result<Widened, Refused> {
+    let widened = c::widen(rows, names, copy, changes);
+    match widened.number {
+        0 => Ok(Widened { changes: widened.changes as usize, paired: widened.paired == 1 }),
+        _ => Err(Refused::widened(&widened)),
     }
 }
 

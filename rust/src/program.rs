@@ -1,8 +1,9 @@
 //! A kernel, item by item.
 
-use crate::plain::{self, Lent, LoopRecord, JUMP_ENTRY, LABEL_ENTRY, ROW};
+use crate::plain::{self, Lent, LoopRecord, CHANGE, JUMP_ENTRY, LABEL_ENTRY, ROW};
 use crate::row::{self, Row};
 use crate::visa::{self, Condition, LoopCount, LoopMode, VisaInstruction};
+use crate::widen::{Change, Widened};
 use crate::{error, ItemError, VisaError};
 
 /// A kernel: instructions, labels, jumps to them, and counted loops.
@@ -226,6 +227,46 @@ impl VisaProgram {
     /// ```
     pub fn encode(&self) -> Result<Vec<u8>, VisaError> {
         self.parcels().map(|parcels| visa::bytes(&parcels))
+    }
+
+    /// The kernel with the tails of its loops widened: in the last eleven instructions of each body a
+    /// [`VisaInstruction::Nop`] is a [`VisaInstruction::WideNop`], and a DM move with post-modify or
+    /// pre-modify a [`VisaInstruction::MemoryMove`] without compute, where the instruction encodes. All else
+    /// stays: a kernel that builds comes back unchanged, and so does one whose loops don't pair. `qc_asm` has
+    /// nothing of this name.
+    ///
+    /// The only error is [`VisaError::DoesNotFit`], for a kernel of more items than the library takes.
+    ///
+    /// ```
+    /// use lhodrupesh::{Change, LoopCount, LoopMode, VisaError, VisaInstruction, VisaProgram};
+    ///
+    /// let mut program = VisaProgram::new();
+    /// program.loop_begin(LoopCount::Immediate(16), LoopMode::F1Active);
+    /// program.push(VisaInstruction::Nop);
+    /// program.loop_end();
+    /// assert_eq!(program.parcels(), Err(VisaError::LoopTailNotFullWidth(3)));
+    ///
+    /// let widened = program.widened()?;
+    /// assert_eq!(widened.changes, [Change { item: 1, old: VisaInstruction::Nop }]);
+    /// assert_eq!(widened.program.parcels(), Ok(vec![0x0c00, 0x1080, 0x0003, 0, 0, 0]));
+    /// # Ok::<(), VisaError>(())
+    /// ```
+    pub fn widened(&self) -> Result<Widened, VisaError> {
+        let mut program = self.clone();
+        let mut changes = vec![0; CHANGE * self.rows.len() / ROW];
+        let widened = plain::widen(&self.rows, &self.names, &mut program.rows, &mut changes)
+            .map_err(|refused| error::of(refused.refusal, &self.names))?;
+        let changes = changes.chunks_exact(CHANGE).take(widened.changes);
+        let changes = changes.map(|change| self.change(change[0] as usize)).collect();
+        Ok(Widened { program, changes, paired: widened.paired })
+    }
+
+    /// The change of an item.
+    fn change(&self, item: usize) -> Change {
+        let row: &Row = self.rows[ROW * item..][..ROW].try_into().expect("seventeen numbers");
+        let old =
+            VisaInstruction::from_row(row).expect("a row that was changed says an instruction");
+        Change { item, old }
     }
 
     /// The kernel's rows, for the plain interface. `qc_asm` has nothing of this name.

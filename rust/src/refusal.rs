@@ -2,7 +2,7 @@
 
 use std::fmt;
 
-use crate::c::{One, Rows, Told, Written};
+use crate::c::{One, Rows, Told, Widened, Written};
 
 /// A name as a range of the lent names.
 ///
@@ -124,7 +124,8 @@ pub enum Refusal {
     TooFewBytes(u64),
     /// 35: the parcel at this place starts no known form, or one that is cut short.
     UnknownForm(u64),
-    /// 36: no room for more rows read back, or for more places, than so many.
+    /// 36: no room for more rows read back, or for more places, than so many; of widening, for more rows
+    /// of the copy or for more changes.
     NoRoomForRows(u64),
 }
 
@@ -305,7 +306,7 @@ pub struct Refused {
     /// Why.
     pub refusal: Refusal,
     /// The row, from 0: the refused one, of a loop without an end the start, of a jump that leads
-    /// nowhere or too far the jump. Refusal 1 is about no row.
+    /// nowhere or too far the jump. Refusals 1 and 36 are about no row.
     pub row: Option<usize>,
 }
 
@@ -354,6 +355,14 @@ impl Refused {
         let refusal = Refusal::of(Answer { number, first, second, name: Name { start, length } });
         let row = (refusal != Refusal::Rows).then_some(third as usize);
         Self { refusal, row }
+    }
+
+    pub(crate) fn widened(widened: &Widened) -> Self {
+        let Widened { number, first, second, third, .. } = *widened;
+        let name = Name { start: 0, length: 0 };
+        let refusal = Refusal::of(Answer { number, first, second, name });
+        let of_a_row = !matches!(refusal, Refusal::Rows | Refusal::NoRoomForRows(_));
+        Self { refusal, row: of_a_row.then_some(third as usize) }
     }
 }
 
@@ -414,6 +423,17 @@ mod tests {
         }
         let told = Told { number: 15, first: 3, second: 9, third: 17, ..Told::default() };
         assert_eq!(Refused::told(&told).to_string(), "refused 15 3 9 17");
+    }
+
+    #[test]
+    fn every_refusal_of_widening_but_two_has_its_row() {
+        for number in [1, 2, 4, 17, 18, 19, 36] {
+            let refused = Refused::widened(&Widened { number, third: 8, ..Widened::default() });
+            let row = (!matches!(number, 1 | 36)).then_some(8);
+            assert_eq!((refused.number(), refused.row), (number, row));
+        }
+        let widened = Widened { number: 18, first: 3, second: 9, third: 17, ..Widened::default() };
+        assert_eq!(Refused::widened(&widened).to_string(), "refused 18 3 9 17");
     }
 
     #[test]

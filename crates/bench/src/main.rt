@@ -6,7 +6,7 @@ fn main() {
     let mut names = [0u8; 2048];
     let mut out = [0u8; 15384];
     let mut buf = io::large_buffer();
-    let reader = printed::input::read_all(false, &mut buf, &mut rows, &mut names, &mut out);
+    let reader = reader::input::read_all(&mut buf, &mut rows, &mut names);
     let n = printed::whole(reader, &mut rows, &mut names, &mut out);
     io::write_all(STDOUT_FILENO, &out[..n]);
 }

@@ -5,5 +5,5 @@ fn main() {
     let mut names = [0u8; 2048];
     let mut out = [0u8; 15384];
     let mut buf = io::large_buffer();
-    printed::input::read_all(true, &mut buf, &mut rows, &mut names, &mut out);
+    printed::input::read_all(&mut buf, &mut rows, &mut names, &mut out);
 }

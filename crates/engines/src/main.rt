@@ -8,9 +8,8 @@ use reader::Reading;
 fn main() {
     let mut rows = [0u32; 8704];
     let mut names = [0u8; 2048];
-    let mut out = [0u8; 15384];
     let mut buf = io::large_buffer();
-    let reader = printed::input::read_all(false, &mut buf, &mut rows, &mut names, &mut out);
+    let reader = reader::input::read_all(&mut buf, &mut rows, &mut names);
     let reading = reader.finish(&mut rows, &mut names);
     match reading {
         Reading::Unread(line) => {

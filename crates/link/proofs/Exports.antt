@@ -44,6 +44,12 @@ use Rattle.reading.specs.Back.{ReadsBack}
 use Rattle.reading.specs.All.{ReadsAll}
 use Rattle.reading.proofs.Numbers as numbers
 use Rattle.reading.proofs.Single as reading
+use Rattle.widening.specs.declared.ToldWidened.{ToldWidened}
+use Rattle.widening.specs.Widening.{changeWidth, Widens, Fits, widenNumbers}
+use Rattle.widening.specs.WhichRow as widening
+use Rattle.widening.proofs.Single.{no-second-widening}
+use Rattle.widening.proofs.Numbers as widenings
+use Rattle.widening.proofs.WhichRow.{widen-names-row}
 use Rattle.link.specs.declared.One.{One}
 use Rattle.link.specs.One.{oneOf, toldIn}
 
@@ -160,3 +166,23 @@ engines-agree rows names lent promise other = no-second-built rows names lent pr
 -- in an accepted build the places that the second walk writes are 0, 1, .., count - 1, each once
 pub written-once : (rows names : List ℕ) (lent : Lent) {t : Told} {left : Lent} → Builds rows names lent t left → t .number ≡ 0 → writes (kernelOf rows names) (rowsIn rows) ≡ from 0 (t .count)
 written-once rows names lent {t} {left} promise e = each-once (kernelOf rows names) (rowsIn rows) ∙ ap (from 0) (sym (ap (λ (o : Told). o .count) (accepted-count rows names lent t left promise e)))
+
+-- ---- lhodrupesh_widen
+module _ (rows names copy list : List ℕ) {t : ToldWidened} {leftCopy leftList : List ℕ} (promise : Widens rows names copy list t leftCopy leftList) where
+  pub no-second-widened : {s : ToldWidened} {otherCopy otherList : List ℕ} → Widens rows names copy list s otherCopy otherList → (t ≡ s) × (leftCopy ≡ otherCopy) × (leftList ≡ otherList)
+  no-second-widened other = no-second-widening rows names copy list promise other
+
+  -- number 0 exactly where every row is read and both slices have room
+  pub widened-zero : (t .number ≡ 0) ↔ Fits rows names copy list
+  widened-zero = widenings.widen-zero rows names copy list promise
+
+  pub widened-numbers : among (0 ∷ widenNumbers) (alone (t .number)) ≡ true
+  widened-numbers = widenings.widen-numbers rows names copy list promise
+
+  -- 1 and 36 name no row; a row refusal names the first row at fault
+  pub widened-row : widening.NamesRow rows names copy list t
+  widened-row = widen-names-row rows names copy list promise
+
+  -- the rows copied and the changes listed lie in the lent slices
+  pub widened-count : t .number ≡ 0 → (rowsIn rows * rowWidth ≤ length copy) × (changeWidth * t .changes ≤ length list)
+  widened-count z = widenings.widened-fits rows names copy list promise z

@@ -6,6 +6,7 @@ ghost use Rattle.counts.specs.Counts.{Counts};
 ghost use Rattle.slots.specs.Slots.{Checks};
 ghost use Rattle.parcel_bytes.specs.Bytes.{Writes};
 ghost use Rattle.reading.specs.Back.{ReadsBack};
+ghost use Rattle.widening.specs.Widening.{Widens};
 ghost use Rattle.link.specs.One.{oneOf, toldIn};
 use counts::Counting;
 use instruction::Parcels;
@@ -13,6 +14,7 @@ use parcel_bytes::ToldBytes;
 use places::OpenLoop;
 use reading::ToldRows;
 use refusals::Told;
+use widening::ToldWidened;
 
 // One instruction's answer: 0 and the count, or a refusal's number and details; and the six places.
 #[repr(C)]
@@ -135,4 +137,18 @@ pub extern "C" fn lhodrupesh_read_back(
     ensures { λ r. ⌜ ReadsBack (now (parcels .entry)) (now (rows .entry)) (now (places .entry)) r (now (rows .exit)) (now (places .exit)) ⌝ }
 {
     reading::read_back(parcels, rows, places).told()
+}
+
+// The rows copied, the short instructions of loop tails as their full-width twins: its answer in numbers, and what it leaves in the lent copy
+// and list of changes.
+#[no_mangle]
+pub extern "C" fn lhodrupesh_widen(
+    rows: &[u32],
+    names: &[u8],
+    copy: &mut [u32],
+    changes: &mut [u32],
+) -> ToldWidened
+    ensures { λ r. ⌜ Widens (now (rows .entry)) (now (names .entry)) (now (copy .entry)) (now (changes .entry)) r (now (copy .exit)) (now (changes .exit)) ⌝ }
+{
+    widening::widen(rows, names, copy, changes).told()
 }

@@ -1,4 +1,4 @@
-// Standard input to its end: one input, or many, each ended by byte 0x1e and byte 10.
+// Standard input to its end: many inputs, each ended by byte 0x1e and byte 10.
 ghost use Prim.Native.Nat.{_<_, _≤_};
 ghost use lib.ListN.{length};
 ghost use Rattle.reader.specs.Steps.{HasSome};
@@ -6,10 +6,9 @@ use libc::STDIN_FILENO;
 use libc::STDOUT_FILENO;
 use reader::Reader;
 
-// The reader of the input at hand, whether others follow, whether byte 10 of an end mark is still to come, and how many reads are left.
+// The reader of the input at hand, whether byte 10 of an end mark is still to come, and how many reads are left.
 struct Feed {
     reader: Reader,
-    many: bool,
     marked: bool,
     left: u64,
 }
@@ -67,19 +66,6 @@ fn take_chunk(
     s
 }
 
-// A chunk of the only input. After an unread line, which nothing that follows can mend, no read is left.
-fn take_whole(feed: Feed, chunk: &[u8], rows: &mut [u32; 8704], names: &mut [u8; 2048]) -> Feed
-    requires { ⌜ HasSome (feed .reader) (now rows) (now names) ⌝ }
-    ensures { λ r. ⌜ (HasSome (r .reader) (now (rows .exit)) (now (names .exit))) × (r .left ≤ feed .left) ⌝ }
-{
-    let mut s = feed;
-    s.reader = feed.reader.feed(chunk, rows, names);
-    if s.reader.unread {
-        s.left = 0;
-    }
-    s
-}
-
 // One read of standard input. At its end none is left.
 fn read_some(
     feed: Feed,
@@ -99,19 +85,14 @@ fn read_some(
         return s;
     }
     let n = io::count(got, buf);
-    if s.many {
-        s = take_chunk(s, &buf[..n], rows, names, out);
-        s.left = left - 1;
-        return s;
-    }
+    s = take_chunk(s, &buf[..n], rows, names, out);
     s.left = left - 1;
-    take_whole(s, &buf[..n], rows, names)
+    s
 }
 
 // All of standard input; the reader of the last input. A proved loop has to end, so it counts its reads down from a number that no
 // run uses up.
 pub fn read_all(
-    many: bool,
     buf: &mut [u8],
     rows: &mut [u32; 8704],
     names: &mut [u8; 2048],
@@ -122,7 +103,6 @@ pub fn read_all(
 {
     let mut s = Feed {
         reader: Reader::new(rows, names),
-        many,
         marked: false,
         left: u64::MAX,
     };

@@ -1,4 +1,6 @@
 // The bench program's reader: lines of decimal fields to rows and names, a byte at a time.
+pub mod input;
+
 ghost use mathlib.Core.Path.{_≡_};
 ghost use mathlib.Core.List.{List, [], _++_};
 ghost use Prim.Native.Nat.{ℕ, _<_};

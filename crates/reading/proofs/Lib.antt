@@ -1,4 +1,3 @@
-pub mod Stores
 pub mod Wiping
 pub mod Found
 pub mod Walked

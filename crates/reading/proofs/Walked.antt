@@ -17,12 +17,13 @@ use Rattle.known.specs.Front.{Front, known, unknown, instruction, loopStart, Pa
 use Rattle.known.specs.declared.Known.{Known}
 use Rattle.known.specs.Window.{knownAt}
 use Rattle.reading.specs.Back.{Goes, ended, strange, full, next, roomIn, ReadsBack, toldBack}
-use Rattle.reading.specs.Walk.{Begins, Wiped, WalksBack}
+use Rattle.stores.specs.Stores.{Begins}
+use Rattle.reading.specs.Walk.{Wiped, WalksBack}
 use Rattle.reading.specs.declared.Walk.{Walk}
 use Rattle.reading.specs.declared.Back.the-variants as back
 use Rattle.inverse.proofs.Small.{parcels-drop}
 use Rattle.reading.proofs.Found.{none-found, one-found}
-use Rattle.reading.proofs.Stores.{begins-unwritten, begins-one, begins-run, begins-past, row-after}
+use Rattle.stores.proofs.Stores.{begins-unwritten, begins-one, begins-run, begins-past, row-after}
 
 -- ---- what stands at the front of parcels takes some of them, and its row is whole
 pub front-within : {ps row : List ℕ} {n : ℕ} → Front ps (known n row) → n ≤ length ps

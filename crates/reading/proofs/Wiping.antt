@@ -6,8 +6,9 @@ use native.Mathlib.Omega.{arith}
 use lib.ListN.{length, set, replicate, replicate-append-replicate}
 use lib.Seq.{paste}
 use Rattle.rows.specs.Rows.{rowWidth}
-use Rattle.reading.specs.Walk.{Begins, Wiped}
-use Rattle.reading.proofs.Stores.{begins-unwritten, begins-one, begins-run, row-after}
+use Rattle.stores.specs.Stores.{Begins}
+use Rattle.reading.specs.Walk.{Wiped}
+use Rattle.stores.proofs.Stores.{begins-unwritten, begins-one, begins-run, row-after}
 
 pub record Wiping (n : ℕ) (rows₀ places₀ : List ℕ) (i : ℕ) (rows places : List ℕ) : Type 0 where
   pub within : i ≤ n

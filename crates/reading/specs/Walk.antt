@@ -4,17 +4,11 @@ use mathlib.Core.List.{List, _++_}
 use Prim.Native.Nat.{ℕ, _*_, _≤_}
 use lib.ListN.{length, drop, replicate}
 use Rattle.rows.specs.Rows.{rowWidth}
+use Rattle.stores.specs.Stores.{Begins}
 use Rattle.reading.specs.declared.Walk.{Walk}
 use Rattle.reading.specs.Back.{Goes, roomIn}
 
--- a lent slice begins with these n numbers, and after them is as it was
-pub record Begins (old front : List ℕ) (n : ℕ) (new : List ℕ) : Type 0 where
-  pub long : length front ≡ n
-  pub fits : n ≤ length old
-  pub here : new ≡ front ++ drop n old
-  pub same : length new ≡ length old
-
--- it begins with n zeros
+-- a lent slice begins with n zeros, and after them is as it was
 abbrev pub Wiped : List ℕ → ℕ → List ℕ → Type 0
 Wiped old n new = Begins old (replicate n 0) n new
 

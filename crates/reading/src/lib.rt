@@ -2,7 +2,6 @@
 ghost use mathlib.Core.Path.{_≡_};
 ghost use Prim.Native.Nat.{_+_, _*_, _/_, _≤_, min};
 ghost use lib.ListN.{length};
-ghost use lib.Seq.{paste};
 ghost use Rattle.rows.specs.Rows.{rowWidth};
 ghost use Rattle.reading.specs.Back.{toldBack, ReadsBack};
 ghost use Rattle.reading.specs.Walk.{Wiped, WalksBack};
@@ -70,26 +69,15 @@ fn room_of(numbers: usize, places: usize) -> usize
     if whole < places { whole } else { places }
 }
 
-// The seventeen numbers of a row stand from `at` on.
-fn put_row(rows: &mut [u32], at: usize, row: [u32; 17])
-    requires { ⌜ at + rowWidth ≤ length (now rows) ⌝ }
-    ensures { λ _. ⌜ now (rows .exit) ≡ paste (now (rows .entry)) at row rowWidth ⌝ }
-{
-    let mut k = 0;
-    while k < ROW_WIDTH {
-        rows[at + k] = row[k];
-        k += 1;
-    }
-}
-
 // The first n rows and the first n places are zero.
 fn wipe(rows: &mut [u32], places: &mut [u64], n: usize)
     requires { ⌜ (n * rowWidth ≤ length (now rows)) × (n ≤ length (now places)) ⌝ }
     ensures { λ _. ⌜ Wiped (now (rows .entry)) (n * rowWidth) (now (rows .exit)) × Wiped (now (places .entry)) n (now (places .exit)) ⌝ }
 {
+    let zeros = [0u32; 17];
     let mut i = 0;
     while i < n {
-        put_row(rows, i * ROW_WIDTH, [0; 17]);
+        stores::put_row(rows, i * ROW_WIDTH, &zeros);
         places[i] = 0;
         i += 1;
     }
@@ -118,7 +106,7 @@ fn read_rows(parcels: &[u16], rows: &mut [u32], places: &mut [u64]) -> Walk
                 verdict: Verdict::Refused(Refusal::NoRoomForRows(room as u64)),
             };
         }
-        put_row(rows, done * ROW_WIDTH, row);
+        stores::put_row(rows, done * ROW_WIDTH, &row);
         places[done] = at as u64;
         done += 1;
         at += size as usize;

@@ -51,7 +51,7 @@ pub enum Refusal {
     NoRoomForBytes(u64),
     // The parcel that starts no known form.
     UnknownForm(u64),
-    // No room for rows read back, with the smaller room.
+    // No room for rows, for their places or for changes, with the room.
     NoRoomForRows(u64),
 }
 

@@ -6,7 +6,7 @@ ghost use Rattle.text.specs.Text.{each, Puts};
 ghost use Rattle.row_lines.specs.RowText.{written, field, rowLine, rowLines, rowsText, Prints};
 
 // How many numbers of a row are written: those up to the last that is not 0, and its kind.
-fn used(row: &[u32]) -> usize
+pub fn used(row: &[u32]) -> usize
     requires { ⌜ 0 < length (now row) ⌝ }
     ensures { λ r. ⌜ (take r (now (row .entry)) ≡ written (now (row .entry))) × (r ≤ length (now (row .entry))) ⌝ }
 {
@@ -30,7 +30,7 @@ fn put_field(out: &mut [u8], at: usize, n: u32) -> usize
 }
 
 // Numbers, each after a tab; the place after them.
-fn put_fields(out: &mut [u8], at: usize, numbers: &[u32]) -> usize
+pub fn put_fields(out: &mut [u8], at: usize, numbers: &[u32]) -> usize
     requires { ⌜ at + 21 * length (now numbers) ≤ length (now out) ⌝ }
     ensures { λ r. ⌜ Puts (now (out .entry)) at (each field (now (numbers .entry))) (now (out .exit)) r ⌝ }
 {

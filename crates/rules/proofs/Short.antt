@@ -19,23 +19,24 @@ use Rattle.refusals.proofs.Within.{Tells, none, other}
 use Rattle.encode.proofs.Numbers.{loopNumbers}
 use Rattle.coded.specs.declared.Coded.{Coded}
 use Rattle.coded.specs.declared.Coded.the-variants.{LoopEnd}
+use Rattle.coded.specs.Coded.{readVerdict, encodes}
 use Rattle.places.specs.Items.{Kernel, kernelOf, about, isEntry, isShort, address, entries, nest}
 use Rattle.places.specs.Looking.{Found, opener, inTail, shortOne}
-use Rattle.places.specs.Verdict.{whenFound}
-use Rattle.places.specs.Left.{Lent, Builds}
+use Rattle.places.specs.Verdict.{whenFound, verdict}
+use Rattle.places.specs.Left.{Lent, roomsIn, Builds}
 use Rattle.prefixes.proofs.Tests.{true-false, and-both}
 use Rattle.prefixes.proofs.Looking.{LatestRow, latest-row, newest-is, newest-none}
 use Rattle.prefixes.proofs.Traits.{short-entry, wide-entry}
 use Rattle.prefixes.proofs.Totals.{total-up}
 use Rattle.rules.specs.Short.{LatestShort}
 use Rattle.rules.proofs.Pairs.{pair-to}
-use Rattle.rules.proofs.Walk.{Holds, build-holds}
+use Rattle.rules.proofs.Walk.{Holds, verdict-holds, build-holds}
 
 module _ (k : Kernel) where
   open Kernel k using (it, n)
 
   -- what is promised of what is told, and of a verdict
-  abbrev Detail : Told → Type 0
+  abbrev pub Detail : Told → Type 0
   Detail t = t .number ≡ 26 → LatestShort k (t .first)
 
   record Promised (v : Verdict) : Type 0 where
@@ -113,6 +114,10 @@ module _ (k : Kernel) where
         jumps-room = λ m. another (NoRoomForJumps m) refl;
         loops-room = λ m. another (NoRoomForLoops m) refl;
       }
+
+  -- so of the verdict on its rows
+  pub verdict-short : (lent : Lent) → ((i : ℕ) → Tells reading (readVerdict (it i))) → ((i : ℕ) → Tells encoding (encodes (it i))) → Detail (checked (verdict k (roomsIn lent)))
+  verdict-short lent reads codes = verdict-holds k lent Promised holds reads codes .detail
 
   answer-told : (row : ℕ) (v : Verdict) (count : ℕ) → Promised v → Detail (answered (answerIn row v count))
   answer-told row Good count p = λ e. absurd (omega arith)

@@ -14,7 +14,8 @@ use visa_oracle::sample_lists;
 use visa_oracle::sample_rows;
 
 const USAGE: &str = "usage: sample rows  |  sample lists  |  sample benches [KERNEL-FILE...]
-       sample kernel ITEMS [EVERY]  |  sample labels newest|oldest|random|latest";
+       sample kernel ITEMS [EVERY]  |  sample tails ITEMS
+       sample labels newest|oldest|random|latest";
 
 fn main() -> ExitCode {
     let words: Vec<String> = std::env::args().skip(1).collect();
@@ -24,6 +25,7 @@ fn main() -> ExitCode {
         ["benches", files @ ..] => benches(files),
         ["kernel", items] => kernel(items, kernels::SPARSE),
         ["kernel", items, every] => number(every).and_then(|every| kernel(items, every)),
+        ["tails", items] => tails(items),
         ["labels", target] => labels(target),
         _ => Err(USAGE.to_string()),
     };
@@ -60,6 +62,12 @@ fn benches(files: &[&str]) -> Result<Vec<u8>, String> {
 fn kernel(items: &str, every: usize) -> Result<Vec<u8>, String> {
     let items = number(items)?;
     Ok(lines(&kernels::kernel(&mut Random::new(1, items as u64), items, every)))
+}
+
+/// The lines of such a kernel with short instructions in its loops.
+fn tails(items: &str) -> Result<Vec<u8>, String> {
+    let items = number(items)?;
+    Ok(lines(&kernels::short_tails(&mut Random::new(1, items as u64), items)))
 }
 
 fn number(word: &str) -> Result<usize, String> {

@@ -12,9 +12,6 @@ large-buffer-requires c κs = search needs
 slice-aggregate-read-all : tie.Need-slice-aggregate-read-all
 slice-aggregate-read-all c = search needs
 
-slice-aggregate-read-all-2 : tie.Need-slice-aggregate-read-all-2
-slice-aggregate-read-all-2 c = search needs
-
 read-all-requires : tie.Need-read-all-requires
 read-all-requires c κs = search needs
 
@@ -37,16 +34,16 @@ enum-known-reading-2 : tie.Need-enum-known-reading-2
 enum-known-reading-2 c = search needs
 
 array-share-prefix-rows : tie.Need-array-share-prefix-rows
-array-share-prefix-rows c = read-within (c .before .before .before .before .before .before .before .before .read-all .ensures) (c .before .before .before .finish .ensures .0) (c .before .reading2 .given .1) .0
+array-share-prefix-rows c = read-within (c .before .before .before .before .before .before .before .read-all .ensures) (c .before .before .before .finish .ensures .0) (c .before .reading2 .given .1) .0
 
 slice-aggregate-all : tie.Need-slice-aggregate-all
-slice-aggregate-all c = sym (length-take-le _ _ (read-within (c .before .before .before .before .before .before .before .before .before .read-all .ensures) (c .before .before .before .before .finish .ensures .0) (c .before .before .reading2 .given .1) .0))
+slice-aggregate-all c = sym (length-take-le _ _ (read-within (c .before .before .before .before .before .before .before .before .read-all .ensures) (c .before .before .before .before .finish .ensures .0) (c .before .before .reading2 .given .1) .0))
 
 array-share-prefix-names : tie.Need-array-share-prefix-names
-array-share-prefix-names c = read-within (c .before .before .before .before .before .before .before .before .before .read-all .ensures) (c .before .before .before .before .finish .ensures .0) (c .before .before .reading2 .given .1) .1
+array-share-prefix-names c = read-within (c .before .before .before .before .before .before .before .before .read-all .ensures) (c .before .before .before .before .finish .ensures .0) (c .before .before .reading2 .given .1) .1
 
 slice-aggregate-all-2 : tie.Need-slice-aggregate-all-2
-slice-aggregate-all-2 c = sym (length-take-le _ _ (read-within (c .before .before .before .before .before .before .before .before .before .before .read-all .ensures) (c .before .before .before .before .before .finish .ensures .0) (c .before .before .before .reading2 .given .1) .1))
+slice-aggregate-all-2 c = sym (length-take-le _ _ (read-within (c .before .before .before .before .before .before .before .before .before .read-all .ensures) (c .before .before .before .before .before .finish .ensures .0) (c .before .before .before .reading2 .given .1) .1))
 
 all-requires : tie.Need-all-requires
 all-requires c κs = search needs
@@ -63,7 +60,6 @@ main-spec =
     (tie.spec
     large-buffer-requires
     slice-aggregate-read-all
-    slice-aggregate-read-all-2
     read-all-requires
     finish-requires
     enum-known-reading

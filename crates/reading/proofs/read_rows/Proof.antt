@@ -43,6 +43,9 @@ returns-2 c = walked-full (c .before .before .before .before .before .loop .inv)
 mul-put-row : tie.Need-mul-put-row Inv-loop μ-loop
 mul-put-row c = search needs
 
+slice-aggregate-put-row : tie.Need-slice-aggregate-put-row Inv-loop μ-loop
+slice-aggregate-put-row c = search needs
+
 put-row-requires : tie.Need-put-row-requires Inv-loop μ-loop
 put-row-requires c κs = search needs
 
@@ -56,13 +59,13 @@ add-done : tie.Need-add-done Inv-loop μ-loop
 add-done c = search needs
 
 add-at : tie.Need-add-at Inv-loop μ-loop
-add-at c = omega (arith, walked-within (c .before .before .before .before .before .before .before .before .before .loop .inv) (c .before .before .before .before .before .before .before .before .loop-test .taken) (c .before .before .before .before .before .before .before .known-at .ensures) (c .before .before .before .before .before .if1 .left))
+add-at c = omega (arith, walked-within (c .before .before .before .before .before .before .before .before .before .before .loop .inv) (c .before .before .before .before .before .before .before .before .before .loop-test .taken) (c .before .before .before .before .before .before .before .before .known-at .ensures) (c .before .before .before .before .before .before .if1 .left))
 
 loop-less : tie.Need-loop-less Inv-loop μ-loop
 loop-less c = search needs
 
 loop-again : tie.Need-loop-again Inv-loop μ-loop
-loop-again c = walked-next (c .before .before .before .before .before .before .before .before .before .loop .inv) (c .before .before .before .before .before .before .before .before .loop-test .taken) (c .before .before .before .before .before .before .before .known-at .ensures) (c .before .before .before .before .before .if1 .left) (c .before .before .before .before .before .before .before .before .before .before .room-of .ensures) (c .before .before .before .before .if2 .left) (c .before .before .put-row .ensures)
+loop-again c = walked-next (c .before .before .before .before .before .before .before .before .before .before .loop .inv) (c .before .before .before .before .before .before .before .before .before .loop-test .taken) (c .before .before .before .before .before .before .before .before .known-at .ensures) (c .before .before .before .before .before .before .if1 .left) (c .before .before .before .before .before .before .before .before .before .before .before .room-of .ensures) (c .before .before .before .before .before .if2 .left) (c .before .before .put-row .ensures)
 
 same-length-5 : tie.Need-same-length-5 Inv-loop μ-loop
 same-length-5 c = search needs
@@ -89,6 +92,7 @@ read-rows-spec =
     same-length-4
     returns-2
     mul-put-row
+    slice-aggregate-put-row
     put-row-requires
     mul-places
     slice-write-places

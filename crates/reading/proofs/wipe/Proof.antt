@@ -7,16 +7,19 @@ use Rattle.reading.proofs.wipe.Statement.{statement}
 use Rattle.reading.proofs.wipe.Tie as tie
 
 abbrev Inv-loop : tie.InvT-loop
-Inv-loop rows₀ places₀ n i₀ rows places i = Wiping n rows₀ places₀ i rows places
+Inv-loop rows₀ places₀ n zeros i₀ rows places i = Wiping n rows₀ places₀ i rows places
 
 abbrev μ-loop : tie.MeasureT-loop
-μ-loop rows₀ places₀ n i₀ rows places i = n - i
+μ-loop rows₀ places₀ n zeros i₀ rows places i = n - i
 
 loop-holds : tie.Need-loop-holds Inv-loop μ-loop
 loop-holds c = wiping-start (omega arith) (omega arith)
 
 mul-put-row : tie.Need-mul-put-row Inv-loop μ-loop
 mul-put-row c = search needs
+
+slice-aggregate-put-row : tie.Need-slice-aggregate-put-row Inv-loop μ-loop
+slice-aggregate-put-row c = search needs
 
 put-row-requires : tie.Need-put-row-requires Inv-loop μ-loop
 put-row-requires c κs = search needs
@@ -34,7 +37,7 @@ loop-less : tie.Need-loop-less Inv-loop μ-loop
 loop-less c = search needs
 
 loop-again : tie.Need-loop-again Inv-loop μ-loop
-loop-again c = wiping-next (c .before .before .before .before .before .loop .inv) (c .before .before .before .before .loop-test .taken) (c .before .before .put-row .ensures)
+loop-again c = wiping-next (c .before .before .before .before .before .before .loop .inv) (c .before .before .before .before .before .loop-test .taken) (c .before .before .put-row .ensures)
 
 same-length : tie.Need-same-length Inv-loop μ-loop
 same-length c = search needs
@@ -53,6 +56,7 @@ wipe-spec =
     μ-loop
     loop-holds
     mul-put-row
+    slice-aggregate-put-row
     put-row-requires
     mul-places
     slice-write-places

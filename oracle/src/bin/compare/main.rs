@@ -6,23 +6,26 @@ mod options;
 mod parcels;
 mod rows;
 mod speed;
+mod tails;
 
 use std::process::ExitCode;
 
 use options::Options;
 
 const USAGE: &str =
-    "usage: compare all|rows|lists|parcels [--short] [--seed N] [--count N] [--jobs N]
+    "usage: compare all|rows|lists|parcels|tails [--short] [--seed N] [--count N] [--jobs N]
        compare speed [--seed N] [--count N] [--write FOLDER]
        compare memory port|rust|stack";
 
-/// Random rows, lists and rows read back of a full run and of a short one.
+/// Random rows, lists, rows read back and lists widened of a full run and of a short one.
 const ROWS: u64 = 10_000_000;
 const LISTS: u64 = 1_000_000;
 const PARCELS: u64 = 2_000_000;
+const TAILS: u64 = 400_000;
 const SHORT_ROWS: u64 = 1_000_000;
 const SHORT_LISTS: u64 = 100_000;
 const SHORT_PARCELS: u64 = 100_000;
+const SHORT_TAILS: u64 = 16_000;
 /// Timed runs.
 const RUNS: u64 = 201;
 
@@ -44,11 +47,15 @@ fn run(words: &[String]) -> Result<bool, String> {
     match words.as_slice() {
         ["all", rest @ ..] => {
             let options = Options::read(rest)?;
-            Ok(compare_rows(&options) && compare_lists(&options) && compare_parcels(&options))
+            Ok(compare_rows(&options)
+                && compare_lists(&options)
+                && compare_parcels(&options)
+                && compare_tails(&options))
         }
         ["rows", rest @ ..] => Ok(compare_rows(&Options::read(rest)?)),
         ["lists", rest @ ..] => Ok(compare_lists(&Options::read(rest)?)),
         ["parcels", rest @ ..] => Ok(compare_parcels(&Options::read(rest)?)),
+        ["tails", rest @ ..] => Ok(compare_tails(&Options::read(rest)?)),
         ["speed", rest @ ..] => {
             let options = Options::read(rest)?;
             let runs = options.count.unwrap_or(RUNS);
@@ -77,4 +84,9 @@ fn compare_lists(options: &Options) -> bool {
 fn compare_parcels(options: &Options) -> bool {
     let count = options.count.unwrap_or(if options.short { SHORT_PARCELS } else { PARCELS });
     parcels::compare(options, count)
+}
+
+fn compare_tails(options: &Options) -> bool {
+    let count = options.count.unwrap_or(if options.short { SHORT_TAILS } else { TAILS });
+    tails::compare(options, count)
 }

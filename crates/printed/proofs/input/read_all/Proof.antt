@@ -8,10 +8,10 @@ use Rattle.printed.proofs.input.read_all.Statement.{statement}
 use Rattle.printed.proofs.input.read_all.Tie as tie
 
 abbrev Inv-loop : tie.InvT-loop
-Inv-loop many buf₀ rows₀ names₀ out₀ s₀ buf rows names out s = HasSome (s .reader) rows names × (length buf ≡ length buf₀) × (length out ≡ length out₀)
+Inv-loop buf₀ rows₀ names₀ out₀ s₀ buf rows names out s = HasSome (s .reader) rows names × (length buf ≡ length buf₀) × (length out ≡ length out₀)
 
 abbrev μ-loop : tie.MeasureT-loop
-μ-loop many buf₀ rows₀ names₀ out₀ s₀ buf rows names out s = s .left
+μ-loop buf₀ rows₀ names₀ out₀ s₀ buf rows names out s = s .left
 
 new-requires : tie.Need-new-requires Inv-loop μ-loop
 new-requires c κs = search needs

@@ -1,4 +1,4 @@
-//! The contests: one instruction, kernels, labels, bytes, reading back.
+//! The contests: one instruction, kernels, labels, bytes, reading back, widening.
 
 use std::hint::black_box;
 
@@ -10,6 +10,7 @@ use visa_oracle::list::List;
 use visa_oracle::random::Random;
 use visa_oracle::row::{Row, WIDTH};
 use visa_oracle::same::{port, rust};
+use visa_oracle::widening::CHANGE;
 
 use super::clock::{self, Contender, Contest};
 
@@ -21,6 +22,8 @@ pub const PARCELS: &str = "the Rust's parcels()";
 pub const COPY: &str = "memcpy of the rows";
 pub const BACK: &str = "reading back";
 pub const BACK_TYPES: &str = "reading back by the port's Rust types";
+pub const UNCHANGED: &str = "widening, nothing to change";
+pub const CHANGED: &str = "widening short tails";
 
 /// A run over so many items is short enough to go by undisturbed on a busy machine.
 const ITEMS: usize = 40_000;
@@ -44,6 +47,7 @@ pub struct Figures {
     pub labels: Vec<(Target, Contest)>,
     pub bytes: Contest,
     pub back: Vec<Back>,
+    pub tails: Vec<(usize, Contest)>,
 }
 
 /// Kernels of one size, how many parcels they come to, and the contest of building and reading them
@@ -75,6 +79,7 @@ pub fn take(seed: u64, runs: u64) -> Figures {
         labels: Target::ALL.map(|target| (target, labels(&mut random, runs, target))).into(),
         bytes: bytes(&mut random, runs),
         back: BACK_SIZES.iter().map(|&items| back(&mut random, runs, items)).collect(),
+        tails: SIZES.iter().map(|&items| (items, tails(&mut random, runs, items))).collect(),
     }
 }
 
@@ -215,6 +220,41 @@ fn back(random: &mut Random, runs: u64, items: usize) -> Back {
         [(PORT, Box::new(port)), (BACK, Box::new(back)), (BACK_TYPES, Box::new(types))];
     let runs = if items > ITEMS { fewer(runs) } else { runs };
     Back { items, parcels, contest: Contest::run(runs, parcels, &mut contenders) }
+}
+
+/// Building kernels, widening them, which changes nothing, widening kernels with short tails, and a copy
+/// of the rows. Times are those of an item.
+fn tails(random: &mut Random, runs: u64, items: usize) -> Contest {
+    say(&format!("widening kernels of {items} items"));
+    let count = (ITEMS / items).max(1);
+    let good: Vec<List> = (0..count).map(|_| kernels::kernel(random, items, SPARSE)).collect();
+    let short: Vec<List> = (0..count).map(|_| kernels::short_tails(random, items)).collect();
+    let mut buffers = Buffers::for_lists(&good);
+    let mut copies = [vec![0; WIDTH * items], vec![0; WIDTH * items], vec![0; WIDTH * items]];
+    let [first, second, third] = &mut copies;
+    let (mut none, mut changes) = (vec![0; CHANGE * items], vec![0; CHANGE * items]);
+    let port = || good.iter().for_each(|list| buffers.build(c::build, black_box(list)));
+    let unchanged = || good.iter().for_each(|list| widen(black_box(list), first, &mut none));
+    let changed = || short.iter().for_each(|list| widen(black_box(list), second, &mut changes));
+    let copy = || {
+        for list in &good {
+            third[..list.numbers.len()].copy_from_slice(black_box(&list.numbers));
+            black_box(&mut *third);
+        }
+    };
+    let mut contenders: [Contender; 4] = [
+        (PORT, Box::new(port)),
+        (UNCHANGED, Box::new(unchanged)),
+        (CHANGED, Box::new(changed)),
+        (COPY, Box::new(copy)),
+    ];
+    let runs = if items > ITEMS { fewer(runs) } else { runs };
+    Contest::run(runs, count * items, &mut contenders)
+}
+
+fn widen(list: &List, copy: &mut [u32], changes: &mut [u32]) {
+    let widened = c::widen(&list.numbers, &list.names, copy, changes);
+    assert_eq!(black_box(widened).number, 0, "a kernel that is refused");
 }
 
 /// The buffers that a build is lent, long enough for each of some lists. Nothing clears them.

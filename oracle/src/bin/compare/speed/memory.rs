@@ -9,6 +9,7 @@ use visa_oracle::kernels::{self, SPARSE};
 use visa_oracle::random::Random;
 use visa_oracle::row::WIDTH;
 use visa_oracle::same::rust;
+use visa_oracle::widening::CHANGE;
 
 use super::figures::Buffers;
 
@@ -117,6 +118,8 @@ fn depths() -> Vec<usize> {
     let mut bytes = [0; 64];
     let parcels = buffers.parcels(&lists[0]);
     let (mut rows, mut places) = (vec![0; WIDTH * ITEMS / 10], vec![0; ITEMS / 10]);
+    let short = kernels::short_tails(&mut Random::new(1, 0), ITEMS / 10);
+    let (mut copy, mut changes) = (vec![0; short.numbers.len()], vec![0; CHANGE * ITEMS / 10]);
     vec![
         depth(|| buffers.build(c::build, &lists[0])),
         depth(|| buffers.build(c::build_plain, &lists[0])),
@@ -136,6 +139,9 @@ fn depths() -> Vec<usize> {
         }),
         depth(|| {
             black_box(c::read_back(&parcels, &mut rows, &mut places));
+        }),
+        depth(|| {
+            black_box(c::widen(&short.numbers, &short.names, &mut copy, &mut changes));
         }),
     ]
 }

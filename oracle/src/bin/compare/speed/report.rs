@@ -7,8 +7,8 @@ use visa_oracle::row::WIDTH;
 
 use super::clock::{Contest, Spread};
 use super::figures::{
-    self, Back, Figures, Kernels, BACK, BACK_TYPES, COPY, FROM_ROWS, PARCELS, PLAIN, PORT,
-    PORT_TYPES,
+    self, Back, Figures, Kernels, BACK, BACK_TYPES, CHANGED, COPY, FROM_ROWS, PARCELS, PLAIN, PORT,
+    PORT_TYPES, UNCHANGED,
 };
 use super::memory::{self, Memory};
 
@@ -63,6 +63,7 @@ pub fn text(figures: &Figures, memory: &Memory) -> String {
     text += &labels(figures);
     text += &bytes(figures);
     text += &back(figures);
+    text += &tails(figures);
     text + &of_memory(memory)
 }
 
@@ -204,6 +205,26 @@ fn back(figures: &Figures) -> String {
     text
 }
 
+fn tails(figures: &Figures) -> String {
+    let mut text = "## Widening loop tails\n\n".to_string();
+    text += "Nanoseconds an item: `lhodrupesh_build` of a kernel's rows; `lhodrupesh_widen` of the same rows, which changes nothing; of a kernel with short\n\
+             instructions in its loops, of which it changes eleven of each fourteen; and a copy of the rows. The ratio is the build's time over that of widening.\n\n";
+    text += "| Items | Building | Widening, nothing to change | Ratio | Widening short tails | Ratio | memcpy of the rows |\n|---|---|---|---|---|---|---|\n";
+    for (items, contest) in &figures.tails {
+        text += &format!(
+            "| {} | {} | {} | {} | {} | {} | {} |\n",
+            grouped(*items),
+            times(contest, PORT),
+            times(contest, UNCHANGED),
+            contest.ratio(UNCHANGED, PORT).text(2),
+            times(contest, CHANGED),
+            contest.ratio(CHANGED, PORT).text(2),
+            times(contest, COPY),
+        );
+    }
+    text + "\n"
+}
+
 fn of_memory(memory: &Memory) -> String {
     let Memory { port, rust, stack } = *memory;
     let items = memory::ITEMS;
@@ -212,7 +233,7 @@ fn of_memory(memory: &Memory) -> String {
     let each = |bytes: usize| format!("{:.1}", bytes as f64 / items as f64);
     format!(
         "## Memory\n\nThe library allocates nothing and has no static data that it writes: `include/test` looks at what it asks of others. It uses what the \
-         caller lends:\n{row} bytes a row, 2 a parcel, 12 a label, 8 a jump, 16 an open loop, 8 a place of a row read back, and the names. Its deepest stack was {} bytes, on a list of \
+         caller lends:\n{row} bytes a row, 2 a parcel, 12 a label, 8 a jump, 16 an open loop, 8 a place of a row read back, 8 a change by widening, and the names. Its deepest stack was {} bytes, on a list of \
          {} items and on\none; no function calls itself.\n\nPeak beyond the rows in a build of {} items: the port {} ({} bytes an item, the \
          parcels and tables lent to it), the Rust {}\n({} bytes an item: its items, parcels and tables).\n",
         grouped(stack),

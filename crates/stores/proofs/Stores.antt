@@ -7,7 +7,7 @@ use native.Mathlib.Numerals.{add-one}
 use lib.ListN.{length, set, drop, length-append, length-drop}
 use lib.Seq.{paste, take-at, take-all, drop-cons, drop-drop, drop-append-add, drop-at, set-at, append-snoc}
 use Rattle.rows.specs.Rows.{rowWidth}
-use Rattle.reading.specs.Walk.{Begins}
+use Rattle.stores.specs.Stores.{Begins}
 
 module _ {old : List ℕ} where
   pub begins : {front new : List ℕ} {n : ℕ} → length front ≡ n → n ≤ length old → new ≡ front ++ drop n old → Begins old front n new

@@ -6,10 +6,11 @@ use native.Mathlib.Omega.{arith}
 use native.Mathlib.Numerals.{add-one}
 use lib.ListN.{length, getD, set, length-set}
 use lib.Seq.{paste, paste-zero, paste-suc}
+use denote.Ref.{now}
 use borrow.Author.Needs.{needs}
 use Rattle.rows.specs.Rows.{rowWidth}
-use Rattle.reading.proofs.put_row.Statement.{statement}
-use Rattle.reading.proofs.put_row.Tie as tie
+use Rattle.stores.proofs.put_row.Statement.{statement}
+use Rattle.stores.proofs.put_row.Tie as tie
 
 abbrev Inv-loop : tie.InvT-loop
 Inv-loop rows₀ at row k₀ rows k = (k ≤ rowWidth) × (rows ≡ paste rows₀ at row k) × (length rows ≡ length rows₀)
@@ -18,13 +19,13 @@ abbrev μ-loop : tie.MeasureT-loop
 μ-loop rows₀ at row k₀ rows k = rowWidth - k
 
 loop-holds : tie.Need-loop-holds Inv-loop μ-loop
-loop-holds c = (omega arith, paste-zero (c .args .rows .now) (c .args .at) (c .args .t3), refl)
+loop-holds c = (omega arith, paste-zero (c .args .rows .now) (c .args .at) (now (c .args .row)), refl)
 
 mul-rows : tie.Need-mul-rows Inv-loop μ-loop
 mul-rows c = search needs
 
-array-read-rows : tie.Need-array-read-rows Inv-loop μ-loop
-array-read-rows c = search needs
+shared-slice-read-rows : tie.Need-shared-slice-read-rows Inv-loop μ-loop
+shared-slice-read-rows c = search needs
 
 add-rows : tie.Need-add-rows Inv-loop μ-loop
 add-rows c = search needs
@@ -43,18 +44,19 @@ loop-less c = search needs
 
 loop-again : tie.Need-loop-again Inv-loop μ-loop
 loop-again c =
-    let k = c .before .loop .k in
-    let start = c .before .before .args in (
+    let k = c .before .before .loop .k in
+    let start = c .before .before .before .args in
+    let row = now (start .row) in (
       omega arith,
-      ap (λ (l : List ℕ). set l (start .at + k) (getD (start .t3) k 0)) (c .before .loop .inv .1) ∙ rw (add-one k) (paste-suc (start .rows .now) (start .at) (start .t3) k 0 (omega arith) (omega arith)),
-      simp length-set (c .before .loop .inv .2),
+      ap (λ (l : List ℕ). set l (start .at + k) (getD row k 0)) (c .before .before .loop .inv .1) ∙ rw (add-one k) (paste-suc (start .rows .now) (start .at) row k 0 (omega arith) (omega arith)),
+      simp length-set (c .before .before .loop .inv .2),
     )
 
 same-length : tie.Need-same-length Inv-loop μ-loop
 same-length c = search needs
 
 returns : tie.Need-returns Inv-loop μ-loop
-returns c = let e : c .before .loop .k ≡ rowWidth = omega arith in c .before .loop .inv .1 ∙ ap (λ (k : ℕ). paste (c .before .before .args .rows .now) (c .before .before .args .at) (c .before .before .args .t3) k) e
+returns c = let e : c .before .loop .k ≡ rowWidth = omega arith in c .before .loop .inv .1 ∙ ap (λ (k : ℕ). paste (c .before .before .args .rows .now) (c .before .before .args .at) (now (c .before .before .args .row)) k) e
 
 pub put-row-spec : {M : Type 1} → statement M
 put-row-spec =
@@ -64,7 +66,7 @@ put-row-spec =
     μ-loop
     loop-holds
     mul-rows
-    array-read-rows
+    shared-slice-read-rows
     add-rows
     mul-rows-2
     slice-write-rows

@@ -1,0 +1,4 @@
+pub mod Rooms
+pub mod Saying
+pub mod Piped
+pub mod Told

@@ -1,0 +1,14 @@
+pub mod Moves
+pub mod Widths
+pub mod Twins
+pub mod Tails
+pub mod Alike
+pub mod Rows
+pub mod Changes
+pub mod Counting
+pub mod Listed
+pub mod Unchanged
+pub mod Twice
+pub mod Accepted
+pub mod Passed
+pub mod Never

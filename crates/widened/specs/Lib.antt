@@ -1,0 +1,3 @@
+pub mod Moves
+pub mod Tails
+pub mod Widened

@@ -1,0 +1,11 @@
+pub mod Cells
+pub mod Marks
+pub mod Pairing
+pub mod Tailing
+pub mod Changing
+pub mod Writing
+pub mod Whole
+pub mod Single
+pub mod Numbers
+pub mod WhichRow
+pub mod Around

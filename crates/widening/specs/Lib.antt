@@ -1,0 +1,4 @@
+pub mod Widening
+pub mod WhichRow
+pub mod Kernels
+pub mod Walks
