@@ -46,6 +46,7 @@ abbrev pub has : {A : Type 0} → ℕ → List (ℕ × A) → Bool
 has key [] = false
 has key (line ∷ lines) = eqb key (line .0) || has key lines
 
+-- whether a row has a twin, and which; of a row without one it is not asked
 abbrev pub hasTwin : List ℕ → Bool
 hasTwin row = has (at row 0) (twins row)
 
