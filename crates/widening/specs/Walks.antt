@@ -17,8 +17,11 @@ use Rattle.widening.specs.Widening.{hasTwin, pairs, tailed, rowOf, copie
 abbrev pub mark : ℕ → ℕ → ℕ → Counted
 mark e o c = record { entry = e; opens = o; closes = c }
 
+abbrev pub marks : List (ℕ × Counted)
+marks = (48, mark 0 0 0) ∷ (50, mark 1 1 0) ∷ (51, mark 0 0 1) ∷ []
+
 unfoldable pub markOf : ℕ → Counted
-markOf kind = lookup kind ((48, mark 0 0 0) ∷ (50, mark 1 1 0) ∷ (51, mark 0 0 1) ∷ []) (mark 1 0 0)
+markOf kind = lookup kind marks (mark 1 0 0)
 
 -- ---- every row is read
 abbrev pub AllRead : List ℕ → List ℕ → Type 0

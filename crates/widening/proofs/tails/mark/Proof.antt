@@ -1,9 +1,8 @@
 -- Each arm is the table's line of its kind, and the default arm what stands for every other.
 use mathlib.Core.Path.{sym, _∙_}
-use mathlib.Core.List.{[], _∷_}
 use borrow.Author.Needs.{needs}
 use Rattle.bounds.proofs.Lookups.{other-found}
-use Rattle.widening.specs.Walks.{mark, markOf}
+use Rattle.widening.specs.Walks.{mark, marks, markOf}
 use Rattle.widening.proofs.tails.mark.Statement.{statement}
 use Rattle.widening.proofs.tails.mark.Tie as tie
 
@@ -33,7 +32,7 @@ returns-3 c = rw (c .before .match .keys3) (c .count-for3 .ensures)
 
 returns-4 : tie.Need-returns-4
 unfolding markOf
-returns-4 c = c .count-for4 .ensures ∙ sym (other-found (c .before .before .args .kind) ((48, mark 0 0 0) ∷ (50, mark 1 1 0) ∷ (51, mark 0 0 1) ∷ []) (mark 1 0 0) (c .before .match .rest))
+returns-4 c = c .count-for4 .ensures ∙ sym (other-found (c .before .before .args .kind) marks (mark 1 0 0) (c .before .match .rest))
 
 pub mark-spec : {M : Type 1} → statement M
 mark-spec =
