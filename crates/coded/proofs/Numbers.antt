@@ -9,7 +9,7 @@ use Rattle.registers.specs.declared.Register.{Register}
 use Rattle.refusals.specs.declared.Refusal.the-variants.{MultifunctionOperand, DuplicateDestination}
 use Rattle.refusals.specs.declared.Verdict.{Verdict}
 use Rattle.refusals.specs.declared.Verdict.the-variants as verdict
-use Rattle.refusals.specs.Numbers.{reading, encoding}
+use Rattle.refusals.specs.Calls.{reading, encoding}
 use Rattle.refusals.specs.Order.{first}
 use Rattle.refusals.proofs.Within.{Tells, AllTell, tells-when, tells-first}
 use Rattle.items.specs.declared.Compute.{Compute}

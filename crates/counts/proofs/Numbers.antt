@@ -10,7 +10,8 @@ use Rattle.refusals.specs.declared.Verdict.{Verdict}
 use Rattle.refusals.specs.declared.Verdict.the-variants.{Good}
 use Rattle.refusals.specs.declared.Judged.{Judged}
 use Rattle.refusals.specs.declared.Told.{Told}
-use Rattle.refusals.specs.Numbers.{among, reading, encoding}
+use Rattle.refusals.specs.Numbers.{among}
+use Rattle.refusals.specs.Calls.{reading, encoding, numbersOf, Listed}
 use Rattle.refusals.specs.Order.{when, orElse, firstOf}
 use Rattle.refusals.proofs.Numbered.{checked, answers-zero}
 use Rattle.refusals.proofs.Within.{Tells, tells-when, tells-orElse, tells-firstOf, tells-answer, part, tells-wider, none, other}
@@ -22,7 +23,7 @@ use Rattle.places.specs.Items.{rowAt, rowsIn, total}
 use Rattle.refusals.proofs.Order.{orElse-good, when-good, last-one, first-all, all-first}
 use Rattle.counts.specs.declared.Counting.{Counting}
 use Rattle.counts.specs.declared.Counting.the-variants.{Parcels, Instructions}
-use Rattle.counts.specs.Counts.{rowVerdict, amount, listJudged, Passes, Counts, numbersFor}
+use Rattle.counts.specs.Counts.{rowVerdict, amount, listJudged, Passes, Counts, callFor}
 
 -- ---- the list's verdict is good exactly where the list is well formed and every row passes
 not-true : (b : Bool) → not b ≡ false → b ≡ true
@@ -71,18 +72,17 @@ module _ (rows names : List ℕ) (i : ℕ) where
 
 -- what a list is refused for
 record Numbered (what : Counting) : Type 0 where
-  one : Tells (numbersFor what) (when true RowSlice)
-  rows : part (0 ∷ rowNumbers what) (0 ∷ numbersFor what) ≡ true
+  one : Tells (numbersOf (callFor what)) (when true RowSlice)
+  rows : part (0 ∷ rowNumbers what) (0 ∷ numbersOf (callFor what)) ≡ true
   not-one : none (0 ∷ rowNumbers what) (1 ∷ []) ≡ true
-  not-three : none (0 ∷ numbersFor what) (3 ∷ []) ≡ true
 
 numbered : (what : Counting) → Numbered what
-numbered Parcels = record { one = refl; rows = refl; not-one = refl; not-three = refl }
-numbered Instructions = record { one = refl; rows = refl; not-one = refl; not-three = refl }
+numbered Parcels = record { one = refl; rows = refl; not-one = refl }
+numbered Instructions = record { one = refl; rows = refl; not-one = refl }
 
 -- no row is refused for 1
-pub row-not-one : (what : Counting) (rows names : List ℕ) (i : ℕ) → among (1 ∷ []) (checked (rowVerdict what (rowAt rows names i))) ≡ false
-row-not-one what rows names i = other (0 ∷ rowNumbers what) (1 ∷ []) (checked (rowVerdict what (rowAt rows names i))) (numbered what .not-one) (row-verdict-tells rows names i what)
+pub row-not-one : (what : Counting) (rows names : List ℕ) (i : ℕ) → among (1 ∷ []) (checked (rowVerdict what (rowAt rows names i)) .number) ≡ false
+row-not-one what rows names i = other (0 ∷ rowNumbers what) (1 ∷ []) (checked (rowVerdict what (rowAt rows names i)) .number) (numbered what .not-one) (row-verdict-tells rows names i what)
 
 -- ---- THE THEOREMS
 module _ (what : Counting) (rows names : List ℕ) {told : Told} (c : Counts what rows names told) where
@@ -99,13 +99,9 @@ module _ (what : Counting) (rows names : List ℕ) {told : Told} (c : Counts wha
       let e = ap (λ (t : Told). t .number) c in
       ((λ h. p .0 (z .0 (sym e ∙ h))), (λ h. e ∙ z .1 (p .1 h)))
 
-  pub count-numbers : among (0 ∷ numbersFor what) told ≡ true
+  pub count-numbers : Listed (callFor what) (told .number)
   count-numbers =
-      ap (λ (t : Told). among (0 ∷ numbersFor what) t) c
-      ∙ tells-answer (numbersFor what) (judged .row) (judged .verdict) sum
-      (list-tells (rowVerdict what) rows names (numbersFor what) (numbered what .one)
-      (λ i. tells-wider (rowNumbers what) (numbersFor what) (rowVerdict what (rowAt rows names i)) (numbered what .rows) (row-verdict-tells rows names i what)))
-
-  -- 3 is none of them
-  pub count-never : among (3 ∷ []) told ≡ false
-  count-never = other (0 ∷ numbersFor what) (3 ∷ []) told (numbered what .not-three) count-numbers
+      ap (λ (t : Told). among (0 ∷ numbersOf (callFor what)) (t .number)) c
+      ∙ tells-answer (numbersOf (callFor what)) (judged .row) (judged .verdict) sum
+      (list-tells (rowVerdict what) rows names (numbersOf (callFor what)) (numbered what .one)
+      (λ i. tells-wider (rowNumbers what) (numbersOf (callFor what)) (rowVerdict what (rowAt rows names i)) (numbered what .rows) (row-verdict-tells rows names i what)))

@@ -67,7 +67,7 @@ module _ (f : Coded → Verdict) (rows names : List ℕ) where
   listed-says n = says-by n (listed .verdict) refl
 
 -- ---- a number that no row is refused for is not told of one
-pub names-other : {f : ℕ → Verdict} {n : ℕ} {told : Told} (m : ℕ) → ((i : ℕ) → among (m ∷ []) (checked (f i)) ≡ false) → NamesFirst f n told → told .number ≡ m → ⊥
+pub names-other : {f : ℕ → Verdict} {n : ℕ} {told : Told} (m : ℕ) → ((i : ℕ) → among (m ∷ []) (checked (f i) .number) ≡ false) → NamesFirst f n told → told .number ≡ m → ⊥
 names-other m none w e =
     let q : toldOf (w .why) .number ≡ m = sym (ap (λ (t : Told). t .number) (w .said)) ∙ e in
     true≢false (rw (w .first .refused, eq-eqb (toldOf (w .why) .number) m q) at (none (w .row)))

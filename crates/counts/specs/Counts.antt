@@ -9,7 +9,8 @@ use Rattle.refusals.specs.declared.Verdict.{Verdict}
 use Rattle.refusals.specs.declared.Verdict.the-variants.{Good}
 use Rattle.refusals.specs.declared.Answer.{Answer}
 use Rattle.refusals.specs.declared.Told.{Told}
-use Rattle.refusals.specs.Numbers.{answerOf, answered, reading, encoding}
+use Rattle.refusals.specs.Numbers.{answerOf, answered}
+use Rattle.refusals.specs.Calls.{Call, parcelCount, instructionCount}
 use Rattle.refusals.specs.declared.Judged.{Judged}
 use Rattle.refusals.specs.Order.{when, orElse, ofRow, firstIn, foremost}
 use Rattle.items.specs.Kinds.{issued}
@@ -51,7 +52,7 @@ countOf what rows names = answerOf (listJudged (rowVerdict what) rows names) (to
 abbrev pub Counts : Counting → List ℕ → List ℕ → Told → Type 0
 Counts what rows names told = told ≡ answered (countOf what rows names)
 
--- the numbers a count may tell, but 0
-abbrev pub numbersFor : Counting → List ℕ
-numbersFor Parcels = 1 ∷ reading ++ encoding
-numbersFor Instructions = 1 ∷ reading
+-- the call that counts so
+abbrev pub callFor : Counting → Call
+callFor Parcels = parcelCount
+callFor Instructions = instructionCount

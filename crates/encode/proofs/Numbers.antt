@@ -12,7 +12,7 @@ use Rattle.registers.specs.declared.ModifyRegister.{ModifyRegister}
 use Rattle.refusals.specs.declared.Refusal.the-variants.{Encoding, InvalidDmIndex, InvalidDmModifier, UnsupportedPostModifyRegister, Dag1StoreSource, BranchOutOfRange, CallTargetOutOfRange, InvalidPmIndex, InvalidPmModifier, MixedDag, SameDagRegister, DuplicateDestination, LoopCountZero, LoopOutOfRange}
 use Rattle.refusals.specs.declared.Verdict.{Verdict}
 use Rattle.refusals.specs.declared.Verdict.the-variants as Is
-use Rattle.refusals.specs.Numbers.{encoding}
+use Rattle.refusals.specs.Calls.{encoding}
 use Rattle.refusals.specs.Order.{first}
 use Rattle.refusals.proofs.Within.{Tells, AllTell, tells-when, tells-first}
 use Rattle.items.specs.declared.Condition.{Condition}

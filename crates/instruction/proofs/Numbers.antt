@@ -13,7 +13,8 @@ use Rattle.refusals.specs.declared.Refusal.the-variants.{RowSlice, Row}
 use Rattle.refusals.specs.declared.Verdict.{Verdict}
 use Rattle.refusals.specs.declared.Verdict.the-variants as verdict
 use Rattle.refusals.specs.declared.Told.{Told}
-use Rattle.refusals.specs.Numbers.{answerIn, answered, among, reading, encoding}
+use Rattle.refusals.specs.Numbers.{answerIn, answered, among}
+use Rattle.refusals.specs.Calls.{reading, encoding, oneInstruction, numbersOf, Listed}
 use Rattle.refusals.proofs.Numbered.{answers-zero}
 use Rattle.refusals.proofs.Within.{Tells, tells-answer, tells-wider, other}
 use Rattle.items.specs.declared.Item.the-variants as item
@@ -28,9 +29,12 @@ use Rattle.coded.specs.declared.Coded.{Coded}
 use Rattle.coded.specs.declared.Coded.the-variants as coded
 use Rattle.coded.specs.Coded.{codedOf, readVerdict, encodes}
 use Rattle.coded.proofs.Numbers.{row-tells, encodes-tells}
-use Rattle.instruction.specs.Instruction.{heldForm, isMark, formAt, Accepted, Encodes, instructionNumbers}
+use Rattle.instruction.specs.Instruction.{heldForm, isMark, formAt, Accepted, Encodes}
 
 -- ---- the numbers
+abbrev instructionNumbers : List ℕ
+instructionNumbers = numbersOf oneInstruction
+
 abbrev FormTells : Form → Type 0
 FormTells f = Tells instructionNumbers (formVerdict f)
 
@@ -90,14 +94,10 @@ module _ (row : List ℕ) where
         let e = ap (λ (t : Told). t .number) (c .0) in
         ((λ h. good-accepted .0 (z .0 (sym e ∙ h))), (λ h. e ∙ z .1 (good-accepted .1 h)))
 
-    pub instruction-numbers : among (0 ∷ instructionNumbers) told ≡ true
+    pub instruction-numbers : Listed oneInstruction (told .number)
     instruction-numbers =
-        ap (λ (t : Told). among (0 ∷ instructionNumbers) t) (c .0)
+        ap (λ (t : Told). among (0 ∷ instructionNumbers) (t .number)) (c .0)
         ∙ tells-answer instructionNumbers 0 (formVerdict (formAt row)) (length (formParcels (formAt row))) (form-tells row)
-
-    -- 3 is none of them
-    pub instruction-never : among (3 ∷ []) told ≡ false
-    instruction-never = other (0 ∷ instructionNumbers) (3 ∷ []) told refl instruction-numbers
 
     -- "One-instruction calls give 0" for the row
     pub instruction-no-row : told .third ≡ pos 0

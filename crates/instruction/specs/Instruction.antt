@@ -8,7 +8,7 @@ use lib.ListN.{length}
 use Rattle.refusals.specs.declared.Refusal.the-variants.{RowSlice, Row}
 use Rattle.refusals.specs.declared.Told.{Told}
 use Rattle.refusals.specs.declared.Verdict.the-variants as verdict
-use Rattle.refusals.specs.Numbers.{answerIn, answered, reading, encoding}
+use Rattle.refusals.specs.Numbers.{answerIn, answered}
 use Rattle.items.specs.declared.VisaInstruction.{VisaInstruction}
 use Rattle.items.specs.declared.Item.the-variants as item
 use Rattle.encode.specs.declared.Form.{Form}
@@ -49,7 +49,3 @@ formAnswer f = record { told = answered (answerIn 0 (formVerdict f) (length (for
 -- THE CONTRACT of one instruction: what is told of a row, in document 01's numbers, and the six places
 abbrev pub Encodes : List ℕ → Told → List ℕ → Type 0
 Encodes row told places = (told ≡ formAnswer (formAt row) .told) × (places ≡ formAnswer (formAt row) .places)
-
--- the numbers it may tell, but 0
-abbrev pub instructionNumbers : List ℕ
-instructionNumbers = 1 ∷ reading ++ encoding

@@ -1,15 +1,17 @@
 -- For each call that C makes: no second answer fits its promise, number 0 is acceptance, every other number is one of its table.
-use mathlib.Core.Path.{_≡_, sym, ap, ap₂, _∙_}
-use mathlib.Core.Logic.{_↔_, _⊎_}
+use mathlib.Core.Path.{_≡_, refl, sym, ap, ap₂, subst, _∙_}
+use mathlib.Core.Logic.{_↔_, _⊎_, ⊎-elim}
 use mathlib.Core.Bool.{true, false}
-use mathlib.Core.List.{List, _∷_}
+use mathlib.Core.List.{List}
 use Prim.Native.Nat.{ℕ, _*_, _<_, _≤_}
 use lib.ListN.{length}
 use lib.IntN.{pos}
 use Rattle.refusals.specs.declared.Told.{Told}
-use Rattle.refusals.specs.Numbers.{alone, inRow, among}
+use Rattle.refusals.specs.Numbers.{alone, inRow}
+use Rattle.refusals.specs.Calls.{oneInstruction, build, slotCheck, parcelBytes, readBack, widen, Listed}
+use Rattle.refusals.proofs.Calls.{never-three}
 use Rattle.rows.specs.Rows.{wellFormed}
-use Rattle.instruction.specs.Instruction.{instructionNumbers, Accepted, Encodes}
+use Rattle.instruction.specs.Instruction.{Accepted, Encodes}
 use Rattle.instruction.proofs.Single.{no-second-answer}
 use Rattle.instruction.proofs.Numbers.{instruction-zero, instruction-numbers, instruction-no-row}
 use Rattle.places.specs.Items.{kernelOf, rowsIn, place}
@@ -25,12 +27,12 @@ use Rattle.rules.proofs.WhichRow.{build-names-none, build-names-row, build-told
 use Rattle.plain.specs.Once.{from, writes}
 use Rattle.plain.proofs.Once.{each-once}
 use Rattle.counts.specs.declared.Counting.{Counting}
-use Rattle.counts.specs.Counts.{rowVerdict, Passes, Counts, numbersFor}
+use Rattle.counts.specs.Counts.{rowVerdict, Passes, Counts, callFor}
 use Rattle.counts.specs.WhichRow as counts
 use Rattle.counts.proofs.Single.{no-second-count}
 use Rattle.counts.proofs.WhichRow.{count-names-row}
 use Rattle.counts.proofs.Numbers.{count-zero, count-numbers}
-use Rattle.slots.specs.Slots.{Filled, Checks, slotNumbers}
+use Rattle.slots.specs.Slots.{Filled, Checks}
 use Rattle.slots.specs.WhichRow as slots
 use Rattle.slots.proofs.Single.{no-second-verdict}
 use Rattle.slots.proofs.WhichRow.{slot-check-names-row}
@@ -45,7 +47,7 @@ use Rattle.reading.specs.All.{ReadsAll}
 use Rattle.reading.proofs.Numbers as numbers
 use Rattle.reading.proofs.Single as reading
 use Rattle.widening.specs.declared.ToldWidened.{ToldWidened}
-use Rattle.widening.specs.Widening.{changeWidth, Widens, Fits, widenNumbers}
+use Rattle.widening.specs.Widening.{changeWidth, Widens, Fits}
 use Rattle.widening.specs.WhichRow as widening
 use Rattle.widening.proofs.Single.{no-second-widening}
 use Rattle.widening.proofs.Numbers as widenings
@@ -61,8 +63,11 @@ module _ (row : List ℕ) {r : One} (promise : Encodes row (toldIn r) (r .places
   pub one-zero : (r .number ≡ 0) ↔ Accepted row
   one-zero = instruction-zero row promise
 
-  pub one-numbers : among (0 ∷ instructionNumbers) (toldIn r) ≡ true
+  pub one-numbers : Listed oneInstruction (r .number)
   one-numbers = instruction-numbers row promise
+
+  pub one-never-three : r .number ≡ 3 → ⊥
+  one-never-three = never-three oneInstruction one-numbers
 
   -- "One-instruction calls give 0" for the row
   pub one-no-row : r .third ≡ pos 0
@@ -88,6 +93,9 @@ module _ (rows names : List ℕ) (lent : Lent) {t : Told} {left : Lent} (promise
   pub build-numbers : Tellable names t
   build-numbers = build-tells rows names lent t left promise
 
+  pub build-never-three : t .number ≡ 3 → ⊥
+  build-never-three = never-three build (build-numbers .number)
+
   -- WHICH ROW: 1 names none; any other refusal names one of the list's, the first at fault; and the answer without it is the answer of before
   pub built-no-row : wellFormed (length rows) ≡ false → t ≡ alone 1
   built-no-row w = build-names-none rows names lent t left promise w
@@ -106,8 +114,11 @@ module _ (what : Counting) (rows names : List ℕ) {t : Told} (promise : Counts 
   pub counted-zero : (t .number ≡ 0) ↔ Passes (rowVerdict what) rows names
   counted-zero = count-zero what rows names promise
 
-  pub counted-numbers : among (0 ∷ numbersFor what) t ≡ true
+  pub counted-numbers : Listed (callFor what) (t .number)
   counted-numbers = count-numbers what rows names promise
+
+  pub counted-never-three : t .number ≡ 3 → ⊥
+  counted-never-three = never-three (callFor what) counted-numbers
 
   -- 1 names no row; any other refusal names the first row at fault
   pub counted-row : counts.NamesRow (λ i. rowVerdict what (kernelOf rows names .it i)) (rowsIn rows) t
@@ -121,7 +132,7 @@ module _ (rows names : List ℕ) {t : Told} (promise : Checks rows names t) wher
   pub checked-zero : (t .number ≡ 0) ↔ Filled rows names
   checked-zero = check-zero rows names promise
 
-  pub checked-numbers : among (0 ∷ slotNumbers) t ≡ true
+  pub checked-numbers : Listed slotCheck (t .number)
   checked-numbers = check-numbers rows names promise
 
   -- 1 names no row; a row refusal names the first row at fault, 33 the first jump whose slots are broken
@@ -136,6 +147,9 @@ module _ (parcels lent : List ℕ) {t : ToldBytes} {left : List ℕ} (promise : 
   pub written-zero : ((t .number ≡ 0) × (2 * length parcels ≤ length lent)) ⊎ ((t .number ≡ 34) × (length lent < 2 * length parcels))
   written-zero = bytes.written-or-34 parcels lent promise
 
+  pub written-numbers : Listed parcelBytes (t .number)
+  written-numbers = ⊎-elim (λ a. subst (Listed parcelBytes) (sym (a .0)) refl) (λ b. subst (Listed parcelBytes) (sym (b .0)) refl) written-zero
+
   pub written-no-row : t .third ≡ pos 0
   written-no-row = bytes.no-row parcels lent promise
 
@@ -148,7 +162,7 @@ module _ (parcels rows places : List ℕ) {t : ToldRows} {leftRows leftPlaces : 
   pub read-zero : (t .number ≡ 0) ↔ ReadsAll parcels rows places
   read-zero = reading.read-zero promise
 
-  pub read-numbers : (t .number ≡ 0) ⊎ (t .number ≡ 35) ⊎ (t .number ≡ 36)
+  pub read-numbers : Listed readBack (t .number)
   read-numbers = numbers.read-numbers promise
 
   -- the rows counted, and their places, lie in the lent ones
@@ -176,7 +190,7 @@ module _ (rows names copy list : List ℕ) {t : ToldWidened} {leftCopy leftList 
   pub widened-zero : (t .number ≡ 0) ↔ Fits rows names copy list
   widened-zero = widenings.widen-zero rows names copy list promise
 
-  pub widened-numbers : among (0 ∷ widenNumbers) (alone (t .number)) ≡ true
+  pub widened-numbers : Listed widen (t .number)
   widened-numbers = widenings.widen-numbers rows names copy list promise
 
   -- 1 and 36 name no row; a row refusal names the first row at fault

@@ -1,6 +1,5 @@
 -- What reading back tells: 0 with rows that fit the lent slices, or 35 or 36; no second detail and no row.
 use mathlib.Core.Path.{_≡_, refl, ap, _∙_}
-use mathlib.Core.Logic.{_⊎_, inl, inr}
 use mathlib.Core.List.{List}
 use Prim.Native.Nat.{ℕ, _+_, _*_, _≤_}
 use native.Mathlib.Omega.{arith}
@@ -8,6 +7,7 @@ use lib.ListN.{length, length-append}
 use lib.IntN.{pos}
 use Rattle.refusals.specs.declared.Verdict.{Verdict}
 use Rattle.refusals.specs.declared.Verdict.the-variants.{Good, Refused}
+use Rattle.refusals.specs.Calls.{readBack, Listed}
 use Rattle.rows.specs.Rows.{rowWidth}
 use Rattle.reading.specs.declared.ToldRows.{ToldRows}
 use Rattle.reading.specs.Back.{Goes, ended, strange, full, next, toldRows, ReadsBack}
@@ -17,10 +17,10 @@ use Rattle.reading.proofs.Walked.{front-whole}
 module _ {room : ℕ} where
   -- the verdict is told by 0, 35 or 36, and by one detail at most
   goes-tells : {place done : ℕ} {ps rows places : List ℕ} {v : Verdict} → Goes room place done ps rows places v → (n : ℕ) →
-      ((toldRows v n .number ≡ 0) ⊎ (toldRows v n .number ≡ 35) ⊎ (toldRows v n .number ≡ 36)) × (toldRows v n .second ≡ pos 0) × (toldRows v n .third ≡ pos 0)
-  goes-tells ended n = (inl refl, refl, refl)
-  goes-tells (strange f) n = (inr (inl refl), refl, refl)
-  goes-tells (full f h) n = (inr (inr refl), refl, refl)
+      Listed readBack (toldRows v n .number) × (toldRows v n .second ≡ pos 0) × (toldRows v n .third ≡ pos 0)
+  goes-tells ended n = (refl, refl, refl)
+  goes-tells (strange f) n = (refl, refl, refl)
+  goes-tells (full f h) n = (refl, refl, refl)
   goes-tells (next f h rest) n = goes-tells rest n
 
   -- 0 is told of good verdicts alone
@@ -51,7 +51,7 @@ counts-most (Refused r) n = omega arith
 
 -- ---- of the answer
 module _ {parcels rows places : List ℕ} {t : ToldRows} {r p : List ℕ} (x : ReadsBack parcels rows places t r p) where
-  pub read-numbers : (t .number ≡ 0) ⊎ (t .number ≡ 35) ⊎ (t .number ≡ 36)
+  pub read-numbers : Listed readBack (t .number)
   read-numbers = rw (x .answer) (goes-tells (x .goes) (length (x .newPlaces)) .0)
 
   pub read-second : t .second ≡ pos 0

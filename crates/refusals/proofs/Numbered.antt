@@ -24,13 +24,13 @@ pub record Numbered (t : Told) : Type 0 where
   pub last : t .number ≤ 36
   pub uncounted : t .count ≡ 0
   pub rowless : t .third ≡ pos 0
-  pub unnamed : among naming t ≡ false → (t .start ≡ 0) × (t .length ≡ 0)
+  pub unnamed : among naming (t .number) ≡ false → (t .start ≡ 0) × (t .length ≡ 0)
 
 -- with details, and with a name
 detailed : {n : ℕ} {a b : ℤ} → T (ltb 0 n) → T (leb n 36) → Numbered (two n a b)
 detailed {n = n} h k = record { over = ltb→lt 0 n h; last = leb→le n 36 k; uncounted = refl; rowless = refl; unnamed = λ f. (refl, refl) }
 
-named-so : {n a b : ℕ} → T (ltb 0 n) → T (leb n 36) → among naming (named n a b) ≡ true → Numbered (named n a b)
+named-so : {n a b : ℕ} → T (ltb 0 n) → T (leb n 36) → among naming n ≡ true → Numbered (named n a b)
 named-so {n = n} h k e = record { over = ltb→lt 0 n h; last = leb→le n 36 k; uncounted = refl; rowless = refl; unnamed = λ f. absurd (true≢false (sym e ∙ f)) }
 
 pub numbered : (r : Refusal) → Numbered (toldOf r)
@@ -90,6 +90,6 @@ pub answers-zero : (row : ℕ) (v : Verdict) (n : ℕ) → (answered (answerIn r
 answers-zero row verdict.Good n = ((λ e. refl), (λ e. refl))
 answers-zero row (verdict.Refused r) n = ((λ e. zero-good (verdict.Refused r) e), (λ e. ap (λ (v : Verdict). checked v .number) e))
 
-pub unnamed-answer : (a : Answer) → among naming (answered a) ≡ false → (answered a .start ≡ 0) × (answered a .length ≡ 0)
+pub unnamed-answer : (a : Answer) → among naming (answered a .number) ≡ false → (answered a .start ≡ 0) × (answered a .length ≡ 0)
 unnamed-answer (answer.Accepted n) f = (refl, refl)
 unnamed-answer (answer.Refused r row) f = numbered r .unnamed f

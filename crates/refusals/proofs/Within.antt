@@ -1,15 +1,14 @@
 -- The numbers of a list in document 01's order are those of its parts: an order tells only what one of its refusals tells.
-use mathlib.Core.Path.{_≡_, refl, sym, _∙_}
+use mathlib.Core.Path.{_≡_, refl, sym, ap, _∙_}
 use mathlib.Core.Bool.{Bool, true, false, true≢false, not, _&&_, _||_}
 use mathlib.Core.List.{List, [], _∷_}
 use Prim.Native.Nat.{ℕ, zero, suc}
 use lib.Dec.{eqb}
 use borrow.Author.Tests.{eqb-true}
-use Rattle.refusals.specs.declared.Told.{Told}
 use Rattle.refusals.specs.declared.Refusal.{Refusal}
 use Rattle.refusals.specs.declared.Verdict.{Verdict}
 use Rattle.refusals.specs.declared.Verdict.the-variants.{Good, Refused}
-use Rattle.refusals.specs.Numbers.{alone, answerIn, answered, among}
+use Rattle.refusals.specs.Numbers.{answerIn, answered, among}
 use Rattle.refusals.specs.Order.{when, orElse, first, firstOf}
 use Rattle.refusals.proofs.Numbered.{checked}
 
@@ -37,7 +36,7 @@ module _ (P : Verdict → Type 0) (good : P Good) where
 
 -- ---- a verdict is good, or tells one of these numbers
 abbrev pub Tells : List ℕ → Verdict → Type 0
-Tells ns v = among (0 ∷ ns) (checked v) ≡ true
+Tells ns v = among (0 ∷ ns) (checked v .number) ≡ true
 
 module _ (ns : List ℕ) where
   abbrev pub AllTell : List Verdict → Type 0
@@ -63,41 +62,37 @@ either false b f g e = g e
 -- each of the first is one of the second
 abbrev pub part : List ℕ → List ℕ → Bool
 part [] ms = true
-part (n ∷ ns) ms = among ms (alone n) && part ns ms
+part (n ∷ ns) ms = among ms n && part ns ms
 
 both : {P : Type 0} (a b : Bool) → (a ≡ true → b ≡ true → P) → (a && b) ≡ true → P
 both true b f e = f refl e
 both false b f e = absurd (true≢false (sym e))
 
-same-number : (ms : List ℕ) (t : Told) (n : ℕ) → t .number ≡ n → among ms t ≡ among ms (alone n)
-same-number [] t n e = refl
-same-number (m ∷ ms) t n e = rw (same-number ms t n e, e)
-
 -- its row does not alter what is told
-pub tells-answer : (ns : List ℕ) (row : ℕ) (v : Verdict) (n : ℕ) → Tells ns v → among (0 ∷ ns) (answered (answerIn row v n)) ≡ true
+pub tells-answer : (ns : List ℕ) (row : ℕ) (v : Verdict) (n : ℕ) → Tells ns v → among (0 ∷ ns) (answered (answerIn row v n) .number) ≡ true
 tells-answer ns row Good n h = refl
-tells-answer ns row (Refused r) n h = same-number (0 ∷ ns) (answered (answerIn row (Refused r) n)) (checked (Refused r) .number) refl ∙ sym (same-number (0 ∷ ns) (checked (Refused r)) (checked (Refused r) .number) refl) ∙ h
+tells-answer ns row (Refused r) n h = h
 
-pub wider : (ns ms : List ℕ) (t : Told) → part ns ms ≡ true → among ns t ≡ true → among ms t ≡ true
-wider [] ms t p e = absurd (true≢false (sym e))
-wider (n ∷ ns) ms t p e =
-    both (among ms (alone n)) (part ns ms)
-    (λ here there. either (eqb (t .number) n) (among ns t) (λ q. same-number ms t n (eqb-true (t .number) n q) ∙ here) (wider ns ms t there) e) p
+pub wider : (ns ms : List ℕ) (n : ℕ) → part ns ms ≡ true → among ns n ≡ true → among ms n ≡ true
+wider [] ms n p e = absurd (true≢false (sym e))
+wider (k ∷ ns) ms n p e =
+    both (among ms k) (part ns ms)
+    (λ here there. either (eqb n k) (among ns n) (λ q. ap (among ms) (eqb-true n k q) ∙ here) (wider ns ms n there) e) p
 
 pub tells-wider : (ns ms : List ℕ) (v : Verdict) → part (0 ∷ ns) (0 ∷ ms) ≡ true → Tells ns v → Tells ms v
-tells-wider ns ms v p h = wider (0 ∷ ns) (0 ∷ ms) (checked v) p h
+tells-wider ns ms v p h = wider (0 ∷ ns) (0 ∷ ms) (checked v .number) p h
 
 -- none of the first is one of the second
 abbrev pub none : List ℕ → List ℕ → Bool
 none [] ms = true
-none (n ∷ ns) ms = not (among ms (alone n)) && none ns ms
+none (n ∷ ns) ms = not (among ms n) && none ns ms
 
 not-true : (b : Bool) → not b ≡ true → b ≡ false
 not-true true e = absurd (true≢false (sym e))
 not-true false e = refl
 
-pub other : (ns ms : List ℕ) (t : Told) → none ns ms ≡ true → among ns t ≡ true → among ms t ≡ false
-other [] ms t p e = absurd (true≢false (sym e))
-other (n ∷ ns) ms t p e =
-    both (not (among ms (alone n))) (none ns ms)
-    (λ here there. either (eqb (t .number) n) (among ns t) (λ q. same-number ms t n (eqb-true (t .number) n q) ∙ not-true _ here) (other ns ms t there) e) p
+pub other : (ns ms : List ℕ) (n : ℕ) → none ns ms ≡ true → among ns n ≡ true → among ms n ≡ false
+other [] ms n p e = absurd (true≢false (sym e))
+other (k ∷ ns) ms n p e =
+    both (not (among ms k)) (none ns ms)
+    (λ here there. either (eqb n k) (among ns n) (λ q. ap (among ms) (eqb-true n k q) ∙ not-true _ here) (other ns ms n there) e) p

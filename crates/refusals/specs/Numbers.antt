@@ -91,23 +91,10 @@ abbrev pub answered : Answer → Told
 answered (answer.Accepted n) = counted n
 answered (answer.Refused r row) = inRow row (toldOf r)
 
--- the number told is one of these
-abbrev pub among : List ℕ → Told → Bool
-among [] t = false
-among (n ∷ ns) t = eqb (t .number) n || among ns t
-
--- "row refusals (2, 4, and 17 to 19 from compute construction)"
-abbrev pub reading : List ℕ
-reading = 2 ∷ 4 ∷ 17 ∷ 18 ∷ 19 ∷ []
-
--- "DM modify: 5, 8, 6, 7. Dual move: 5, 6, 13, 14, 19 .. Memory move: 15, 16, 19", 9 of a branch's offset and 10 of a `CJump`
-abbrev pub encoding : List ℕ
-encoding = 5 ∷ 6 ∷ 7 ∷ 8 ∷ 9 ∷ 10 ∷ 13 ∷ 14 ∷ 15 ∷ 16 ∷ 19 ∷ []
-
--- what a build may tell besides: all but 3 and 33 to 36
-abbrev pub building : List ℕ
-building =
-    1 ∷ 2 ∷ 4 ∷ 5 ∷ 6 ∷ 7 ∷ 8 ∷ 9 ∷ 10 ∷ 11 ∷ 12 ∷ 13 ∷ 14 ∷ 15 ∷ 16 ∷ 17 ∷ 18 ∷ 19 ∷ 20 ∷ 21 ∷ 22 ∷ 23 ∷ 24 ∷ 25 ∷ 26 ∷ 27 ∷ 28 ∷ 29 ∷ 30 ∷ 31 ∷ 32 ∷ []
+-- the number is one of these
+abbrev pub among : List ℕ → ℕ → Bool
+among [] n = false
+among (m ∷ ms) n = eqb n m || among ms n
 
 -- the numbers whose detail is a name
 abbrev pub naming : List ℕ

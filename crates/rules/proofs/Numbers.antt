@@ -10,7 +10,8 @@ use Rattle.refusals.specs.declared.Refusal.{Refusal}
 use Rattle.refusals.specs.declared.Refusal.the-variants.{RowSlice, DuplicateLabel, UndefinedLabel, EmptyLoop, UnclosedLoop, UnmatchedLoopEnd, SharedLoopEnd, LoopTailNotFullWidth, BranchInLoop, LabelInLoop, NoRoomForParcels, NoRoomForLabels, NoRoomForJumps, NoRoomForLoops}
 use Rattle.refusals.specs.declared.Verdict.{Verdict}
 use Rattle.refusals.specs.declared.Verdict.the-variants.{Good, Refused}
-use Rattle.refusals.specs.Numbers.{toldOf, answerIn, answered, among, reading, encoding, building, naming}
+use Rattle.refusals.specs.Numbers.{toldOf, answerIn, answered, among, naming}
+use Rattle.refusals.specs.Calls.{reading, encoding, build, numbersOf}
 use Rattle.refusals.proofs.Numbered.{checked, numbered}
 use Rattle.refusals.proofs.Within.{Tells, tells-answer, tells-wider, part, none, other}
 use Rattle.encode.proofs.Numbers.{loopNumbers}
@@ -25,22 +26,22 @@ use Rattle.rules.proofs.Walk.{Holds, build-holds}
 module _ (k : Kernel) where
   -- a number of the build's table, and a range in the names
   pub record Sound (v : Verdict) : Type 0 where
-    pub tells : Tells building v
+    pub tells : Tells (numbersOf build) v
     pub within : checked v .start + checked v .length ≤ length (k .names)
 
   good : Sound Good
   good = record { tells = refl; within = omega arith }
 
-  unnamed : (r : Refusal) → Tells building (Refused r) → among naming (toldOf r) ≡ false → Sound (Refused r)
+  unnamed : (r : Refusal) → Tells (numbersOf build) (Refused r) → among naming (toldOf r .number) ≡ false → Sound (Refused r)
   unnamed r h n = let u = numbered r .unnamed n in record { tells = h; within = omega (arith, u .0, u .1) }
 
-  named : (r : Refusal) → Tells building (Refused r) → toldOf r .start + toldOf r .length ≤ length (k .names) → Sound (Refused r)
+  named : (r : Refusal) → Tells (numbersOf build) (Refused r) → toldOf r .start + toldOf r .length ≤ length (k .names) → Sound (Refused r)
   named r h w = record { tells = h; within = w }
 
   -- of a shorter list without names
-  among-these : (ns : List ℕ) → part (0 ∷ ns) (0 ∷ building) ≡ true → none (0 ∷ ns) naming ≡ true → (v : Verdict) → Tells ns v → Sound v
+  among-these : (ns : List ℕ) → part (0 ∷ ns) (0 ∷ numbersOf build) ≡ true → none (0 ∷ ns) naming ≡ true → (v : Verdict) → Tells ns v → Sound v
   among-these ns p n Good h = good
-  among-these ns p n (Refused r) h = unnamed r (tells-wider ns building (Refused r) p h) (other (0 ∷ ns) naming (checked (Refused r)) n h)
+  among-these ns p n (Refused r) h = unnamed r (tells-wider ns (numbersOf build) (Refused r) p h) (other (0 ∷ ns) naming (checked (Refused r) .number) n h)
 
   tail-found : (f : Found) (address : ℕ → ℕ) → Sound (whenFound f (λ q. LoopTailNotFullWidth (address q)))
   tail-found (at row) address = unnamed (LoopTailNotFullWidth (address row)) refl refl
@@ -71,7 +72,7 @@ module _ (k : Kernel) where
 -- ---- an answer
 answer-sound : (k : Kernel) (row : ℕ) (v : Verdict) (count : ℕ) → Sound k v → Tellable (k .names) (answered (answerIn row v count))
 answer-sound k row Good count s = record { number = refl; within = omega arith; unnamed = λ f. (refl, refl) }
-answer-sound k row (Refused r) count s = record { number = tells-answer building row (Refused r) count (s .tells); within = s .within; unnamed = numbered r .unnamed }
+answer-sound k row (Refused r) count s = record { number = tells-answer (numbersOf build) row (Refused r) count (s .tells); within = s .within; unnamed = numbered r .unnamed }
 
 -- THE THEOREM: what a build tells is 0 or a number of its table, and the range of a name lies in the names; any other answer has range 0, 0
 pub build-tells : (rows names : List ℕ) (lent : Lent) (t : Told) (x : Lent) → Builds rows names lent t x → Tellable names t

@@ -13,7 +13,8 @@ use Rattle.refusals.specs.declared.Refusal.{Refusal}
 use Rattle.refusals.specs.declared.Refusal.the-variants.{RowSlice, DuplicateLabel, UndefinedLabel, EmptyLoop, UnclosedLoop, UnmatchedLoopEnd, SharedLoopEnd, LoopTailNotFullWidth, BranchInLoop, LabelInLoop, NoRoomForParcels, NoRoomForLabels, NoRoomForJumps, NoRoomForLoops}
 use Rattle.refusals.specs.declared.Verdict.{Verdict}
 use Rattle.refusals.specs.declared.Verdict.the-variants.{Good, Refused}
-use Rattle.refusals.specs.Numbers.{toldOf, answerIn, answered, among, reading, encoding}
+use Rattle.refusals.specs.Numbers.{toldOf, answerIn, answered, among}
+use Rattle.refusals.specs.Calls.{reading, encoding}
 use Rattle.refusals.proofs.Numbered.{checked}
 use Rattle.refusals.proofs.Within.{Tells, none, other}
 use Rattle.encode.proofs.Numbers.{loopNumbers}
@@ -52,7 +53,7 @@ module _ (k : Kernel) where
   others : (ns : List ℕ) (v : Verdict) → none (0 ∷ ns) (26 ∷ []) ≡ true → Tells ns v → Promised v
   others ns v p h =
       record {
-        detail = λ e. absurd (true-false (let w : among (26 ∷ []) (checked v) ≡ true = rw e refl in w) (other (0 ∷ ns) (26 ∷ []) (checked v) p h));
+        detail = λ e. absurd (true-false (let w : among (26 ∷ []) (checked v .number) ≡ true = rw e refl in w) (other (0 ∷ ns) (26 ∷ []) (checked v .number) p h));
       }
 
   -- ---- the loop end e, which closes a loop

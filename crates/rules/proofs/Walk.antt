@@ -14,7 +14,8 @@ use Rattle.refusals.specs.declared.Refusal.{Refusal}
 use Rattle.refusals.specs.declared.Refusal.the-variants.{RowSlice, DuplicateLabel, UndefinedLabel, EmptyLoop, UnclosedLoop, UnmatchedLoopEnd, SharedLoopEnd, LoopTailNotFullWidth, BranchInLoop, LabelInLoop, NoRoomForParcels, NoRoomForLabels, NoRoomForJumps, NoRoomForLoops}
 use Rattle.refusals.specs.declared.Verdict.{Verdict}
 use Rattle.refusals.specs.declared.Verdict.the-variants.{Good, Refused}
-use Rattle.refusals.specs.Numbers.{answerIn, answered, reading, encoding}
+use Rattle.refusals.specs.Numbers.{answerIn, answered}
+use Rattle.refusals.specs.Calls.{reading, encoding}
 use Rattle.refusals.specs.Order.{when, orElse, first, firstOf}
 use Rattle.refusals.proofs.Within.{Tells, holds-when, holds-first}
 use Rattle.items.specs.Kinds.{isBranch}

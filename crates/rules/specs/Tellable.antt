@@ -5,9 +5,10 @@ use mathlib.Core.Bool.{true, false}
 use mathlib.Core.List.{List, _∷_}
 use lib.ListN.{length}
 use Rattle.refusals.specs.declared.Told.{Told}
-use Rattle.refusals.specs.Numbers.{among, building, naming}
+use Rattle.refusals.specs.Numbers.{among, naming}
+use Rattle.refusals.specs.Calls.{build, Listed}
 
 pub record Tellable (names : List ℕ) (t : Told) : Type 0 where
-  pub number : among (0 ∷ building) t ≡ true
+  pub number : Listed build (t .number)
   pub within : t .start + t .length ≤ length names
-  pub unnamed : among naming t ≡ false → (t .start ≡ 0) × (t .length ≡ 0)
+  pub unnamed : among naming (t .number) ≡ false → (t .start ≡ 0) × (t .length ≡ 0)

@@ -10,6 +10,7 @@ use Rattle.refusals.specs.declared.Verdict.{Verdict}
 use Rattle.refusals.specs.declared.Verdict.the-variants.{Good}
 use Rattle.refusals.specs.declared.Told.{Told}
 use Rattle.refusals.specs.Numbers.{among}
+use Rattle.refusals.specs.Calls.{slotCheck, numbersOf, Listed}
 use Rattle.refusals.specs.Order.{when, orElse, firstOf}
 use Rattle.refusals.proofs.Numbered.{answers-zero}
 use Rattle.refusals.proofs.Within.{Tells, tells-when, tells-first, tells-firstOf, tells-answer, other}
@@ -19,7 +20,7 @@ use Rattle.places.specs.Items.{rowAt, rowsIn}
 use Rattle.refusals.proofs.Order.{orElse-good, good-orElse, last-one, first-all, all-first}
 use Rattle.counts.specs.Counts.{listJudged}
 use Rattle.counts.proofs.Numbers.{listed-verdict, passes-good, list-tells, read-tells}
-use Rattle.slots.specs.Slots.{opens, items, unlabelled, filled, slotVerdict, slotCheckOf, Filled, Checks, slotNumbers}
+use Rattle.slots.specs.Slots.{opens, items, unlabelled, filled, slotVerdict, slotCheckOf, Filled, Checks}
 
 module _ (rows names : List ℕ) where
   abbrev slot : ℕ → Verdict
@@ -41,6 +42,9 @@ module _ (rows names : List ℕ) where
         (λ f. good-orElse read (orElse (firstOf slot (rowsIn rows)) Good) (p .1 (f .passes)) (last-one (firstOf slot (rowsIn rows)) ∙ all-first slot (rowsIn rows) (f .slots))),
       )
 
+  abbrev slotNumbers : List ℕ
+  slotNumbers = numbersOf slotCheck
+
   slot-tells : (i : ℕ) → Tells slotNumbers (slot i)
   slot-tells i = tells-when slotNumbers (opens (rowAt rows names i) && not (filled (unlabelled (drop (i + 1) (items (rowAt rows names) (rowsIn rows)))))) (BrokenSlot i) refl
 
@@ -52,13 +56,9 @@ module _ (rows names : List ℕ) where
         let e = ap (λ (t : Told). t .number) c in
         ((λ h. check-good .0 (z .0 (sym e ∙ h))), (λ h. e ∙ z .1 (check-good .1 h)))
 
-    pub check-numbers : among (0 ∷ slotNumbers) told ≡ true
+    pub check-numbers : Listed slotCheck (told .number)
     check-numbers =
-        ap (λ (t : Told). among (0 ∷ slotNumbers) t) c
+        ap (λ (t : Told). among (0 ∷ slotNumbers) (t .number)) c
         ∙ tells-answer slotNumbers (slotCheckOf rows names .row) (slotCheckOf rows names .verdict) 0
         (tells-first slotNumbers (listJudged readVerdict rows names .verdict ∷ firstOf slot (rowsIn rows) ∷ [])
         (list-tells readVerdict rows names slotNumbers refl (λ i. read-tells rows names i slotNumbers refl), (tells-firstOf slotNumbers slot (rowsIn rows) slot-tells, tt)))
-
-    -- 3 is none of them
-    pub check-never : among (3 ∷ []) told ≡ false
-    check-never = other (0 ∷ slotNumbers) (3 ∷ []) told refl check-numbers

@@ -12,7 +12,8 @@ use Rattle.refusals.specs.declared.Verdict.{Verdict}
 use Rattle.refusals.specs.declared.Verdict.the-variants.{Good, Refused}
 use Rattle.refusals.specs.declared.Judged.{Judged}
 use Rattle.refusals.specs.declared.Told.{Told}
-use Rattle.refusals.specs.Numbers.{toldOf, inRow, answerOf, answered, among, reading}
+use Rattle.refusals.specs.Numbers.{toldOf, inRow, answerOf, answered, among}
+use Rattle.refusals.specs.Calls.{reading}
 use Rattle.refusals.specs.Order.{firstIn}
 use Rattle.refusals.proofs.Numbered.{checked}
 use Rattle.refusals.proofs.Order.{first-at}
@@ -48,8 +49,8 @@ module _ (rows names : List ℕ) where
       (which (listJudged readVerdict rows names) (firstIn slot (rowsIn rows)) e)
 
   -- ---- a row refusal is neither 1 nor 33, and a jump's is 33 with its row
-  read-other : (m : ℕ) → none (0 ∷ reading) (m ∷ []) ≡ true → (i : ℕ) → among (m ∷ []) (checked (readVerdict (rowAt rows names i))) ≡ false
-  read-other m h i = other (0 ∷ reading) (m ∷ []) (checked (readVerdict (rowAt rows names i))) h (read-tells rows names i reading refl)
+  read-other : (m : ℕ) → none (0 ∷ reading) (m ∷ []) ≡ true → (i : ℕ) → among (m ∷ []) (checked (readVerdict (rowAt rows names i)) .number) ≡ false
+  read-other m h i = other (0 ∷ reading) (m ∷ []) (checked (readVerdict (rowAt rows names i)) .number) h (read-tells rows names i reading refl)
 
   jump-said : {told : Told} (w : NamesFirst slot (rowsIn rows) told) → told ≡ inRow (w .row) (toldOf (BrokenSlot (w .row)))
   jump-said w =

@@ -10,7 +10,7 @@ use Rattle.refusals.specs.declared.Verdict.{Verdict}
 use Rattle.refusals.specs.declared.Verdict.the-variants.{Good}
 use Rattle.refusals.specs.declared.Told.{Told}
 use Rattle.refusals.specs.declared.Judged.{Judged}
-use Rattle.refusals.specs.Numbers.{answerOf, answered, reading}
+use Rattle.refusals.specs.Numbers.{answerOf, answered}
 use Rattle.refusals.specs.Order.{when, firstIn, foremost}
 use Rattle.items.specs.Kinds.{isBranch, hasSlots}
 use Rattle.coded.specs.declared.Coded.{Coded}
@@ -61,7 +61,3 @@ pub record Filled (rows names : List ℕ) : Type 0 where
 -- THE CONTRACT of the slot check: what is told, in document 01's numbers; "33 keeps its first detail and repeats it as the third"
 abbrev pub Checks : List ℕ → List ℕ → Told → Type 0
 Checks rows names told = told ≡ answered (answerOf (slotCheckOf rows names) 0)
-
--- the numbers it may tell, but 0
-abbrev pub slotNumbers : List ℕ
-slotNumbers = 1 ∷ reading ++ 33 ∷ []

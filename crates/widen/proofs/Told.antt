@@ -9,7 +9,8 @@ use borrow.Author.Tests.{le-ltb, le-leb, eq-eqb}
 use Rattle.refusals.specs.declared.Verdict.{Verdict}
 use Rattle.refusals.specs.declared.Verdict.the-variants as verdict
 use Rattle.refusals.specs.declared.Refusal.the-variants.{RowSlice}
-use Rattle.refusals.specs.Numbers.{among, reading}
+use Rattle.refusals.specs.Numbers.{among}
+use Rattle.refusals.specs.Calls.{reading}
 use Rattle.refusals.specs.Order.{when, orElse, firstOf}
 use Rattle.refusals.proofs.Within.{Tells, tells-orElse, tells-firstOf}
 use Rattle.rows.specs.Rows.{rowWidth, mostRows, wellFormed}
@@ -24,7 +25,7 @@ use Rattle.item_lines.proofs.Turned.{turn-long, said-in-turn}
 use Rattle.widen.proofs.Rooms.{how-few}
 use Rattle.widen.specs.Printed.{refusalIn}
 
-told-tells : (row : ℕ) (v : Verdict) (n : ℕ) (paired : Bool) → Tells reading v → among (0 ∷ reading) (refusalIn (toldWidened (widenedIn row v n paired))) ≡ true
+told-tells : (row : ℕ) (v : Verdict) (n : ℕ) (paired : Bool) → Tells reading v → among (0 ∷ reading) (refusalIn (toldWidened (widenedIn row v n paired)) .number) ≡ true
 told-tells row verdict.Good n paired h = refl
 told-tells row (verdict.Refused r) n paired h = h
 
@@ -49,7 +50,7 @@ module _ (rs names : List ℕ) (n : ℕ) (long : length rs ≡ n * 17) (few : n 
       tells-orElse reading (listJudged readVerdict rs names .verdict) _ rows-tell (rw (a, b) refl)
 
 pub only-rows : (input : List ℕ) {rs names : List ℕ} → said input ≡ rows rs names → {t : ToldWidened} {copy list : List ℕ} → Widens rs names (replicate 8704 0) (replicate 1024 0) t copy list
-    → among (0 ∷ reading) (refusalIn t) ≡ true
+    → among (0 ∷ reading) (refusalIn t .number) ≡ true
 only-rows input {rs} {names} i w =
     let s = said-in-turn input i in
     let j = widenJudged rs names (replicate 8704 0) (replicate 1024 0) in

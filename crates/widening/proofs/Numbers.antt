@@ -12,7 +12,8 @@ use Rattle.refusals.specs.declared.Refusal.the-variants.{NoRoomForRows}
 use Rattle.refusals.specs.declared.Verdict.{Verdict}
 use Rattle.refusals.specs.declared.Verdict.the-variants as verdict
 use Rattle.refusals.specs.declared.Judged.{Judged}
-use Rattle.refusals.specs.Numbers.{alone, among}
+use Rattle.refusals.specs.Numbers.{among}
+use Rattle.refusals.specs.Calls.{widen, numbersOf, Listed}
 use Rattle.refusals.specs.Order.{when}
 use Rattle.refusals.proofs.Numbered.{checked, zero-good}
 use Rattle.refusals.proofs.Within.{tells-when, tells-first}
@@ -25,7 +26,7 @@ use Rattle.counts.specs.Counts.{listJudged}
 use Rattle.counts.proofs.Numbers.{passes-good, list-tells, read-tells}
 use Rattle.widening.specs.declared.Widened.the-variants.{Copied}
 use Rattle.widening.specs.declared.ToldWidened.{ToldWidened}
-use Rattle.widening.specs.Widening.{pairs, copied, listed, changed, changeWidth, copyRoom, listRoom, widenJudged, widenedIn, toldWidened, laid, Widens, Fits, widenNumbers}
+use Rattle.widening.specs.Widening.{pairs, copied, listed, changed, changeWidth, copyRoom, listRoom, widenJudged, widenedIn, toldWidened, laid, Widens, Fits}
 
 module _ (rows names copy list : List ℕ) where
   abbrev pub judged : Judged
@@ -49,6 +50,9 @@ module _ (rows names copy list : List ℕ) where
             good-first asked (p .1 (f .passes), (good-when _ _ (le-ltb _ _ (f .copy-room)), (good-when _ _ (le-ltb _ _ (f .list-room)), tt)))),
       )
 
+  abbrev widenNumbers : List ℕ
+  widenNumbers = numbersOf widen
+
   -- the number is the verdict's
   number-in : (row : ℕ) (v : Verdict) (n : ℕ) (paired : Bool) → toldWidened (widenedIn row v n paired) .number ≡ checked v .number
   number-in row verdict.Good n paired = refl
@@ -65,9 +69,9 @@ module _ (rows names copy list : List ℕ) where
       (λ f. number-is ∙ ap (λ (v : Verdict). checked v .number) (widen-good .1 f)),
     )
 
-    pub widen-numbers : among (0 ∷ widenNumbers) (alone (t .number)) ≡ true
+    pub widen-numbers : Listed widen (t .number)
     widen-numbers =
-        ap (λ (n : ℕ). among (0 ∷ widenNumbers) (alone n)) number-is
+        ap (among (0 ∷ widenNumbers)) number-is
         ∙ tells-first widenNumbers asked (
           list-tells readVerdict rows names widenNumbers refl (λ i. read-tells rows names i widenNumbers refl),
           (

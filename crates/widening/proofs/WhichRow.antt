@@ -12,7 +12,7 @@ use Rattle.refusals.specs.declared.Refusal.the-variants.{RowSlice, NoRoomForRow
 use Rattle.refusals.specs.declared.Verdict.{Verdict}
 use Rattle.refusals.specs.declared.Verdict.the-variants as verdict
 use Rattle.refusals.specs.declared.Judged.{Judged}
-use Rattle.refusals.specs.Numbers.{reading}
+use Rattle.refusals.specs.Calls.{reading}
 use Rattle.refusals.specs.Order.{when, ofRow, foremost}
 use Rattle.refusals.proofs.Numbered.{checked}
 use Rattle.refusals.proofs.Within.{none, other}
@@ -79,7 +79,7 @@ module _ (rows names copy list : List ℕ) where
   -- ---- a row refusal is neither 1 nor 36
   row-other : (m : ℕ) → none (0 ∷ reading) (m ∷ []) ≡ true → {t : ToldWidened} → NamesFirst rows names t → t .number ≡ m → ⊥
   row-other m h w e =
-      names-other m (λ i. other (0 ∷ reading) (m ∷ []) (checked (readVerdict (rowAt rows names i))) h (read-tells rows names i reading refl))
+      names-other m (λ i. other (0 ∷ reading) (m ∷ []) (checked (readVerdict (rowAt rows names i)) .number) h (read-tells rows names i reading refl))
       (record { row = w .row; why = w .why; first = w .first; said = refl })
       (sym (ap (λ (t : ToldWidened). t .number) (w .said)) ∙ e)
 

@@ -11,7 +11,7 @@ use Rattle.refusals.specs.declared.Refusal.the-variants.{NoRoomForRows}
 use Rattle.refusals.specs.declared.Verdict.{Verdict}
 use Rattle.refusals.specs.declared.Verdict.the-variants as verdict
 use Rattle.refusals.specs.declared.Judged.{Judged}
-use Rattle.refusals.specs.Numbers.{toldOf, reading}
+use Rattle.refusals.specs.Numbers.{toldOf}
 use Rattle.refusals.specs.Order.{when, ifGood, ofRow, foremost}
 use Rattle.bounds.specs.Tables.{lookup, at}
 use Rattle.rows.specs.Rows.{rowWidth}
@@ -145,7 +145,3 @@ pub record Fits (rows names copy list : List ℕ) : Type 0 where
   pub passes : Passes readVerdict rows names
   pub copy-room : rowsIn rows ≤ copyRoom copy
   pub list-room : changed rows names ≤ listRoom list
-
--- the numbers it may tell, but 0
-abbrev pub widenNumbers : List ℕ
-widenNumbers = 1 ∷ reading ++ 36 ∷ []
