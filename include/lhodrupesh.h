@@ -20,12 +20,12 @@
  * NAMES. The names of labels and jumps are ranges (start, length) of one byte slice: any bytes,
  * possibly empty, equal when the bytes are.
  *
- * REFUSALS. The README has the table of refusal numbers and their details. Details that the table
- * doesn't name are 0. Rows and parcels are numbered from 0. The third detail says which row a call on a
- * list refuses: the refused row itself, so the loop end for 20 to 22 and 24 to 26, and the second of two
- * labels for 11; for 23 the innermost loop start that is still open; for 12, and for 9 of a jump to a
- * label, the jump; for 33 the jump again. It is 0 for 1 and for 36, and in the calls that take no list,
- * so for 34 and 35 too.
+ * REFUSALS. The README has the table of refusal numbers and their details. The number 3 is unused: no
+ * call answers it. Details that the table doesn't name are 0. Rows and parcels are numbered from 0.
+ * The third detail says which row a call on a list refuses: the refused row itself, so the loop end for
+ * 20 to 22 and 24 to 26, and the second of two labels for 11; for 23 the innermost loop start that is
+ * still open; for 12, and for 9 of a jump to a label, the jump; for 33 the jump again. It is 0 for 1 and
+ * for 36, and in the calls that take no list, so for 34 and 35 too.
  *
  * The third detail stands after the other details of each answer, and moved what follows: a program
  * that was compiled with a header without it has to be compiled anew.

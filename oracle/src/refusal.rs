@@ -11,6 +11,10 @@ pub struct Refusal {
     pub second: i64,
 }
 
+/// A number that no refusal has. The Rust's `Encoding` of a value that was made would get it, and so
+/// show as a difference: document 02 has taken 3 out.
+const NO_NUMBER: u32 = u32::MAX;
+
 impl Refusal {
     pub const fn plain(number: u32) -> Self {
         Self::with(number, 0, 0)
@@ -34,7 +38,7 @@ impl From<&VisaError> for Refusal {
     fn from(error: &VisaError) -> Self {
         use VisaError as E;
         match *error {
-            E::Encoding(_) => Self::plain(3),
+            E::Encoding(_) => Self::plain(NO_NUMBER),
             E::InvalidUniversalRegister(code) => Self::of(4, code.into()),
             E::InvalidDmIndex(index) => Self::of(5, index.into()),
             E::InvalidDmModifier(modifier) => Self::of(6, modifier.into()),

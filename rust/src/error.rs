@@ -42,7 +42,22 @@ impl std::error::Error for Error {}
 /// ```
 #[derive(Debug, Clone, PartialEq, Eq)]
 pub enum VisaError {
-    /// A register's constructor refused its number.
+    /// A register's constructor refused its number: what `?` makes of its [`Error`], as in `qc_asm`. No
+    /// method of an instruction or of a program gives it, neither there nor here, since what they hold
+    /// was made. Of a row with such a number the plain calls say [`Refusal::Row`], 2; 3, the number
+    /// that was kept for this case, is unused.
+    ///
+    /// ```
+    /// use lhodrupesh::{plain, Register, VisaError};
+    ///
+    /// fn register(index: u8) -> Result<Register, VisaError> {
+    ///     Ok(Register::new(index)?)
+    /// }
+    ///
+    /// assert!(matches!(register(16), Err(VisaError::Encoding(_))));
+    /// let pass = [26, 16, 1, 0, 0, 0, 0, 0, 0, 0, 0, 0, 0, 0, 0, 0, 0];
+    /// assert_eq!(plain::instruction(&pass), Err(plain::Refusal::Row));
+    /// ```
     Encoding(Error),
     /// A universal code of 0x60 or more.
     InvalidUniversalRegister(u8),
@@ -308,7 +323,6 @@ pub(crate) fn of(refusal: Refusal, names: &[u8]) -> VisaError {
         R::NoRoomForJumps(_) => does_not_fit("jumps", plain::MOST_JUMPS),
         R::NoRoomForLoops(_) => does_not_fit("loops open at once", plain::MOST_LOOPS),
         R::Row
-        | R::Encoding
         | R::InvalidUniversalRegister(_)
         | R::Slot(_)
         | R::TooFewBytes(_)

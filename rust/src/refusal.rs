@@ -32,8 +32,8 @@ impl Name {
     }
 }
 
-/// Why a call refuses. [`Refusal::number`] and [`Refusal::details`] give document 01's numbers. A call
-/// on a list says beside it which row it is about: [`Refused`].
+/// Why a call refuses. [`Refusal::number`] and [`Refusal::details`] give document 01's numbers, of which
+/// 3 is unused. A call on a list says beside it which row it is about: [`Refused`].
 ///
 /// ```
 /// use lhodrupesh::plain::{self, Refusal};
@@ -47,8 +47,6 @@ pub enum Refusal {
     Rows,
     /// 2: an unknown kind, or a place that holds no value of its field.
     Row,
-    /// 3: a scalar word doesn't encode. No input meets it.
-    Encoding,
     /// 4: a universal code of 0x60 or more.
     InvalidUniversalRegister(u32),
     /// 5: a DM index over 7.
@@ -183,7 +181,6 @@ impl Refusal {
         match self {
             Self::Rows => (1, 0, 0),
             Self::Row => (2, 0, 0),
-            Self::Encoding => (3, 0, 0),
             Self::InvalidUniversalRegister(code) => (4, code.into(), 0),
             Self::InvalidDmIndex(index) => (5, index.into(), 0),
             Self::InvalidDmModifier(modifier) => (6, modifier.into(), 0),
@@ -226,7 +223,6 @@ impl Refusal {
         match number {
             1 => Self::Rows,
             2 => Self::Row,
-            3 => Self::Encoding,
             4 => Self::InvalidUniversalRegister(first as u32),
             5 => Self::InvalidDmIndex(first as u8),
             6 => Self::InvalidDmModifier(first as u8),
@@ -398,9 +394,14 @@ impl std::error::Error for Refused {}
 mod tests {
     use super::*;
 
+    /// The numbers of the refusals up to this one: 3 is unused.
+    fn numbers(last: u32) -> impl Iterator<Item = u32> {
+        (1..=last).filter(|number| *number != 3)
+    }
+
     #[test]
     fn every_number_has_its_refusal_and_back() {
-        for number in 1..=36 {
+        for number in numbers(36) {
             let name = Name { start: 5, length: 6 };
             let refusal = Refusal::of(Answer { number, first: 7, second: 9, name });
             assert_eq!(refusal.number(), number);
@@ -413,7 +414,7 @@ mod tests {
 
     #[test]
     fn every_refusal_of_a_list_but_the_first_has_its_row() {
-        for number in 1..=33 {
+        for number in numbers(33) {
             for third in [0, 8, 4_194_303] {
                 let refused = Refused::told(&Told { number, third, ..Told::default() });
                 let row = (number != 1).then_some(third as usize);

@@ -14,7 +14,8 @@ use Rattle.refusals.specs.Numbers.{among}
 use Rattle.refusals.specs.Calls.{reading, encoding, numbersOf, Listed}
 use Rattle.refusals.specs.Order.{when, orElse, firstOf}
 use Rattle.refusals.proofs.Numbered.{checked, answers-zero}
-use Rattle.refusals.proofs.Within.{Tells, tells-when, tells-orElse, tells-firstOf, tells-answer, part, tells-wider, none, other}
+use Rattle.refusals.proofs.Within.{Tells, tells-when, tells-orElse, tells-firstOf, part, tells-wider, none, other}
+use Rattle.refusals.proofs.Calls.{answer-listed}
 use Rattle.rows.specs.Rows.{rowWidth, wellFormed}
 use Rattle.coded.specs.declared.Coded.{Coded}
 use Rattle.coded.specs.Coded.{readVerdict, encodes}
@@ -101,7 +102,6 @@ module _ (what : Counting) (rows names : List ℕ) {told : Told} (c : Counts wha
 
   pub count-numbers : Listed (callFor what) (told .number)
   count-numbers =
-      ap (λ (t : Told). among (0 ∷ numbersOf (callFor what)) (t .number)) c
-      ∙ tells-answer (numbersOf (callFor what)) (judged .row) (judged .verdict) sum
+      answer-listed (callFor what) (judged .row) (judged .verdict) sum c
       (list-tells (rowVerdict what) rows names (numbersOf (callFor what)) (numbered what .one)
       (λ i. tells-wider (rowNumbers what) (numbersOf (callFor what)) (rowVerdict what (rowAt rows names i)) (numbered what .rows) (row-verdict-tells rows names i what)))

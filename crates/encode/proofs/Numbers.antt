@@ -1,7 +1,7 @@
--- Which numbers an instruction, a jump over an offset and a loop start over an offset tell: those of their lists. Refusal 3 is none of them.
+-- Which numbers an instruction, a jump over an offset and a loop start over an offset tell: those of their lists.
 use Prim.Native.Nat.{ℕ}
-use mathlib.Core.Path.{_≡_, refl, sym, subst}
-use mathlib.Core.Bool.{Bool, true, false, true≢false, not, _&&_}
+use mathlib.Core.Path.{refl, sym, subst}
+use mathlib.Core.Bool.{Bool, true, false, not, _&&_}
 use mathlib.Core.List.{List, [], _∷_}
 use lib.IntN.{ℤ, pos, negsuc}
 use lib.Dec.{leb, ltb, eqb}
@@ -9,9 +9,7 @@ use Rattle.signs.specs.Signs.{within}
 use Rattle.registers.specs.declared.UniversalRegister.{UniversalRegister}
 use Rattle.registers.specs.declared.IndexRegister.{IndexRegister}
 use Rattle.registers.specs.declared.ModifyRegister.{ModifyRegister}
-use Rattle.refusals.specs.declared.Refusal.the-variants.{Encoding, InvalidDmIndex, InvalidDmModifier, UnsupportedPostModifyRegister, Dag1StoreSource, BranchOutOfRange, CallTargetOutOfRange, InvalidPmIndex, InvalidPmModifier, MixedDag, SameDagRegister, DuplicateDestination, LoopCountZero, LoopOutOfRange}
-use Rattle.refusals.specs.declared.Verdict.{Verdict}
-use Rattle.refusals.specs.declared.Verdict.the-variants as Is
+use Rattle.refusals.specs.declared.Refusal.the-variants.{InvalidDmIndex, InvalidDmModifier, UnsupportedPostModifyRegister, Dag1StoreSource, BranchOutOfRange, CallTargetOutOfRange, InvalidPmIndex, InvalidPmModifier, MixedDag, SameDagRegister, DuplicateDestination, LoopCountZero, LoopOutOfRange}
 use Rattle.refusals.specs.Calls.{encoding}
 use Rattle.refusals.specs.Order.{first}
 use Rattle.refusals.proofs.Within.{Tells, AllTell, tells-when, tells-first}
@@ -129,13 +127,3 @@ loop-layout (Register r) m z = loop-tell false z
 pub loop-tells : (c : LoopCount) (m : LoopMode) (z : ℤ) → Tells loopNumbers (formVerdict (loopForm c m z))
 unfolding loopForm
 loop-tells c m z = layout-tells loopNumbers (loopLayout c m z) (loop-layout c m z)
-
--- THE THEOREM: refusal 3 is never given
-pub never-encoding : (v : VisaInstruction) → verdictOf v ≡ Is.Refused Encoding → ⊥
-never-encoding v e = true≢false (sym (subst (Tells encoding) e (instruction-tells v)))
-
-pub jump-never : (c : Condition) (z : ℤ) (d : Bool) → formVerdict (jumpForm c z d) ≡ Is.Refused Encoding → ⊥
-jump-never c z d e = true≢false (sym (subst (Tells encoding) e (jump-tells c z d)))
-
-pub loop-never : (c : LoopCount) (m : LoopMode) (z : ℤ) → formVerdict (loopForm c m z) ≡ Is.Refused Encoding → ⊥
-loop-never c m z e = true≢false (sym (subst (Tells loopNumbers) e (loop-tells c m z)))

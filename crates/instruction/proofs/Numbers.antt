@@ -1,7 +1,7 @@
 -- What the one-instruction call tells: 0 exactly where the row holds an instruction that encodes; else 1, a row refusal, or the encoding's.
 use mathlib.Core.Path.{_≡_, refl, sym, ap, _∙_}
 use mathlib.Core.Bool.{Bool, true, false, cond}
-use mathlib.Core.List.{List, [], _∷_}
+use mathlib.Core.List.{List}
 use mathlib.Core.Logic.{_↔_}
 use Prim.Native.Nat.{ℕ}
 use native.Mathlib.Omega.{arith}
@@ -13,10 +13,11 @@ use Rattle.refusals.specs.declared.Refusal.the-variants.{RowSlice, Row}
 use Rattle.refusals.specs.declared.Verdict.{Verdict}
 use Rattle.refusals.specs.declared.Verdict.the-variants as verdict
 use Rattle.refusals.specs.declared.Told.{Told}
-use Rattle.refusals.specs.Numbers.{answerIn, answered, among}
+use Rattle.refusals.specs.Numbers.{answerIn, answered}
 use Rattle.refusals.specs.Calls.{reading, encoding, oneInstruction, numbersOf, Listed}
 use Rattle.refusals.proofs.Numbered.{answers-zero}
-use Rattle.refusals.proofs.Within.{Tells, tells-answer, tells-wider, other}
+use Rattle.refusals.proofs.Within.{Tells, tells-wider}
+use Rattle.refusals.proofs.Calls.{answer-listed}
 use Rattle.items.specs.declared.Item.the-variants as item
 use Rattle.encode.specs.declared.Form.{Form}
 use Rattle.encode.specs.declared.Form.the-variants as form
@@ -96,8 +97,7 @@ module _ (row : List ℕ) where
 
     pub instruction-numbers : Listed oneInstruction (told .number)
     instruction-numbers =
-        ap (λ (t : Told). among (0 ∷ instructionNumbers) (t .number)) (c .0)
-        ∙ tells-answer instructionNumbers 0 (formVerdict (formAt row)) (length (formParcels (formAt row))) (form-tells row)
+        answer-listed oneInstruction 0 (formVerdict (formAt row)) (length (formParcels (formAt row))) (c .0) (form-tells row)
 
     -- "One-instruction calls give 0" for the row
     pub instruction-no-row : told .third ≡ pos 0

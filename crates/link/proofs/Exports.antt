@@ -8,8 +8,7 @@ use lib.ListN.{length}
 use lib.IntN.{pos}
 use Rattle.refusals.specs.declared.Told.{Told}
 use Rattle.refusals.specs.Numbers.{alone, inRow}
-use Rattle.refusals.specs.Calls.{oneInstruction, build, slotCheck, parcelBytes, readBack, widen, Listed}
-use Rattle.refusals.proofs.Calls.{never-three}
+use Rattle.refusals.specs.Calls.{oneInstruction, slotCheck, parcelBytes, readBack, widen, Listed}
 use Rattle.rows.specs.Rows.{wellFormed}
 use Rattle.instruction.specs.Instruction.{Accepted, Encodes}
 use Rattle.instruction.proofs.Single.{no-second-answer}
@@ -66,9 +65,6 @@ module _ (row : List ℕ) {r : One} (promise : Encodes row (toldIn r) (r .places
   pub one-numbers : Listed oneInstruction (r .number)
   one-numbers = instruction-numbers row promise
 
-  pub one-never-three : r .number ≡ 3 → ⊥
-  one-never-three = never-three oneInstruction one-numbers
-
   -- "One-instruction calls give 0" for the row
   pub one-no-row : r .third ≡ pos 0
   one-no-row = instruction-no-row row promise
@@ -93,9 +89,6 @@ module _ (rows names : List ℕ) (lent : Lent) {t : Told} {left : Lent} (promise
   pub build-numbers : Tellable names t
   build-numbers = build-tells rows names lent t left promise
 
-  pub build-never-three : t .number ≡ 3 → ⊥
-  build-never-three = never-three build (build-numbers .number)
-
   -- WHICH ROW: 1 names none; any other refusal names one of the list's, the first at fault; and the answer without it is the answer of before
   pub built-no-row : wellFormed (length rows) ≡ false → t ≡ alone 1
   built-no-row w = build-names-none rows names lent t left promise w
@@ -116,9 +109,6 @@ module _ (what : Counting) (rows names : List ℕ) {t : Told} (promise : Counts 
 
   pub counted-numbers : Listed (callFor what) (t .number)
   counted-numbers = count-numbers what rows names promise
-
-  pub counted-never-three : t .number ≡ 3 → ⊥
-  counted-never-three = never-three (callFor what) counted-numbers
 
   -- 1 names no row; any other refusal names the first row at fault
   pub counted-row : counts.NamesRow (λ i. rowVerdict what (kernelOf rows names .it i)) (rowsIn rows) t

@@ -1,26 +1,24 @@
--- The numbers tell refusals apart: the refusals in their order, with the told details, hold at the told number the refusal that tells it.
+-- The numbers tell refusals apart: of the refusals in their order, with the told details, the one that has the told number is the one that tells it.
 use mathlib.Core.Path.{_≡_, refl, sym, ap, subst, _∙_}
 use mathlib.Core.Bool.{true, false, true≢false, cond}
-use mathlib.Core.List.{List, [], _∷_}
-use Prim.Native.Nat.{ℕ, _-_, _<_}
+use mathlib.Core.List.{List, [], _∷_, map}
+use Prim.Native.Nat.{ℕ, _<_}
 use native.Mathlib.Omega.{arith}
-use lib.ListN.{getD}
 use lib.IntN.{natAbs}
 use lib.Dec.{eqb, ltb}
 use borrow.Author.Tests.{ne-eqb, lt-ltb}
 use Rattle.refusals.specs.declared.Told.{Told}
 use Rattle.refusals.specs.declared.Refusal.{Refusal}
-use Rattle.refusals.specs.declared.Refusal.the-variants.{RowSlice, Row, Encoding, InvalidUniversalRegister, InvalidDmIndex, InvalidDmModifier, UnsupportedPostModifyRegister, Dag1StoreSource, BranchOutOfRange, CallTargetOutOfRange, DuplicateLabel, UndefinedLabel, InvalidPmIndex, InvalidPmModifier, MixedDag, SameDagRegister, NotACompute, MultifunctionOperand, DuplicateDestination, LoopCountZero, LoopOutOfRange, EmptyLoop, UnclosedLoop, UnmatchedLoopEnd, SharedLoopEnd, LoopTailNotFullWidth, BranchInLoop, LabelInLoop, NoRoomForParcels, NoRoomForLabels, NoRoomForJumps, NoRoomForLoops, BrokenSlot, NoRoomForBytes, UnknownForm, NoRoomForRows}
+use Rattle.refusals.specs.declared.Refusal.the-variants.{RowSlice, Row, InvalidUniversalRegister, InvalidDmIndex, InvalidDmModifier, UnsupportedPostModifyRegister, Dag1StoreSource, BranchOutOfRange, CallTargetOutOfRange, DuplicateLabel, UndefinedLabel, InvalidPmIndex, InvalidPmModifier, MixedDag, SameDagRegister, NotACompute, MultifunctionOperand, DuplicateDestination, LoopCountZero, LoopOutOfRange, EmptyLoop, UnclosedLoop, UnmatchedLoopEnd, SharedLoopEnd, LoopTailNotFullWidth, BranchInLoop, LabelInLoop, NoRoomForParcels, NoRoomForLabels, NoRoomForJumps, NoRoomForLoops, BrokenSlot, NoRoomForBytes, UnknownForm, NoRoomForRows}
 use Rattle.refusals.specs.declared.Answer.{Answer}
 use Rattle.refusals.specs.declared.Answer.the-variants as answer
 use Rattle.refusals.specs.Numbers.{toldOf, inRow, answered}
-use Rattle.refusals.proofs.Numbered.{numbered}
+use Rattle.refusals.proofs.Numbered.{numbers, over}
 
 abbrev refusals : Told → List Refusal
 refusals t =
     RowSlice
     ∷ Row
-    ∷ Encoding
     ∷ InvalidUniversalRegister (natAbs (t .first))
     ∷ InvalidDmIndex (natAbs (t .first))
     ∷ InvalidDmModifier (natAbs (t .first))
@@ -56,14 +54,21 @@ refusals t =
     ∷ NoRoomForRows (natAbs (t .first))
     ∷ []
 
--- the refusal that is told; 34 to 36 up to the largest detail
+-- they have the numbers of the table, each once
+in-order : (t : Told) → map (λ r. toldOf r .number) (refusals t) ≡ numbers
+in-order t = refl
+
+-- the refusal that is told: the one that has the number; 34 to 36 up to the largest detail
+abbrev ofNumber : ℕ → List Refusal → Refusal
+ofNumber n [] = RowSlice
+ofNumber n (r ∷ rs) = cond (eqb (toldOf r .number) n) r (ofNumber n rs)
+
 abbrev pub refusalFrom : Told → Refusal
-refusalFrom t = getD (refusals t) (t .number - 1) RowSlice
+refusalFrom t = ofNumber (t .number) (refusals t)
 
 pub refusal-told : (r : Refusal) → ltb (toldOf r .number) 34 ≡ true → refusalFrom (toldOf r) ≡ r
 refusal-told RowSlice e = refl
 refusal-told Row e = refl
-refusal-told Encoding e = refl
 refusal-told (InvalidUniversalRegister a) e = refl
 refusal-told (InvalidDmIndex a) e = refl
 refusal-told (InvalidDmModifier a) e = refl
@@ -102,7 +107,7 @@ below : (r : Refusal) → toldOf r .number < 34 → ltb (toldOf r .number) 34 �
 below r h = lt-ltb (toldOf r .number) 34 h
 
 over-zero : (r : Refusal) → eqb (toldOf r .number) 0 ≡ false
-over-zero r = let h = numbered r .over in ne-eqb (toldOf r .number) 0 (λ (e : toldOf r .number ≡ 0). omega arith)
+over-zero r = let h = over r in ne-eqb (toldOf r .number) 0 (λ (e : toldOf r .number ≡ 0). omega arith)
 
 abbrev pub answerFrom : Told → Answer
 answerFrom t = cond (eqb (t .number) 0) (answer.Accepted (t .count)) (answer.Refused (refusalFrom t) (natAbs (t .third)))

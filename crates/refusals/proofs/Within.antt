@@ -8,7 +8,7 @@ use borrow.Author.Tests.{eqb-true}
 use Rattle.refusals.specs.declared.Refusal.{Refusal}
 use Rattle.refusals.specs.declared.Verdict.{Verdict}
 use Rattle.refusals.specs.declared.Verdict.the-variants.{Good, Refused}
-use Rattle.refusals.specs.Numbers.{answerIn, answered, among}
+use Rattle.refusals.specs.Numbers.{among}
 use Rattle.refusals.specs.Order.{when, orElse, first, firstOf}
 use Rattle.refusals.proofs.Numbered.{checked}
 
@@ -67,11 +67,6 @@ part (n ∷ ns) ms = among ms n && part ns ms
 both : {P : Type 0} (a b : Bool) → (a ≡ true → b ≡ true → P) → (a && b) ≡ true → P
 both true b f e = f refl e
 both false b f e = absurd (true≢false (sym e))
-
--- its row does not alter what is told
-pub tells-answer : (ns : List ℕ) (row : ℕ) (v : Verdict) (n : ℕ) → Tells ns v → among (0 ∷ ns) (answered (answerIn row v n) .number) ≡ true
-tells-answer ns row Good n h = refl
-tells-answer ns row (Refused r) n h = h
 
 pub wider : (ns ms : List ℕ) (n : ℕ) → part ns ms ≡ true → among ns n ≡ true → among ms n ≡ true
 wider [] ms n p e = absurd (true≢false (sym e))

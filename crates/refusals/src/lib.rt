@@ -4,13 +4,12 @@ ghost use Prim.Native.Nat.{min};
 ghost use lib.IntN.{pos};
 ghost use Rattle.refusals.specs.Numbers.{alone, one, two, named, counted, most, toldOf, inRow, answered, answerOf};
 
-// The refusals of documents 01 and 02, in their order, under the Rust's names where it has one.
+// The refusals of documents 01 and 02, in their order, under the Rust's names where it has one; 3 is unused.
 pub enum Refusal {
     // The row slice is no whole number of rows, or over the limit.
     RowSlice,
     // An unknown kind, or a place that holds no value of its field.
     Row,
-    Encoding,
     InvalidUniversalRegister(u32),
     InvalidDmIndex(u8),
     InvalidDmModifier(u8),
@@ -212,7 +211,6 @@ impl Refusal {
         match self {
             Refusal::RowSlice => Told::alone(1),
             Refusal::Row => Told::alone(2),
-            Refusal::Encoding => Told::alone(3),
             Refusal::InvalidUniversalRegister(first) => Told::one(4, first),
             Refusal::InvalidDmIndex(first) => Told::one(5, first as u32),
             Refusal::InvalidDmModifier(first) => Told::one(6, first as u32),

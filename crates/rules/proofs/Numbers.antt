@@ -13,7 +13,7 @@ use Rattle.refusals.specs.declared.Verdict.the-variants.{Good, Refused}
 use Rattle.refusals.specs.Numbers.{toldOf, answerIn, answered, among, naming}
 use Rattle.refusals.specs.Calls.{reading, encoding, build, numbersOf}
 use Rattle.refusals.proofs.Numbered.{checked, numbered}
-use Rattle.refusals.proofs.Within.{Tells, tells-answer, tells-wider, part, none, other}
+use Rattle.refusals.proofs.Within.{Tells, tells-wider, part, none, other}
 use Rattle.encode.proofs.Numbers.{loopNumbers}
 use Rattle.places.specs.Items.{Kernel, kernelOf, address}
 use Rattle.places.specs.Looking.{Found, at, nothing, shortOne}
@@ -72,7 +72,7 @@ module _ (k : Kernel) where
 -- ---- an answer
 answer-sound : (k : Kernel) (row : ℕ) (v : Verdict) (count : ℕ) → Sound k v → Tellable (k .names) (answered (answerIn row v count))
 answer-sound k row Good count s = record { number = refl; within = omega arith; unnamed = λ f. (refl, refl) }
-answer-sound k row (Refused r) count s = record { number = tells-answer (numbersOf build) row (Refused r) count (s .tells); within = s .within; unnamed = numbered r .unnamed }
+answer-sound k row (Refused r) count s = record { number = s .tells; within = s .within; unnamed = numbered r .unnamed }
 
 -- THE THEOREM: what a build tells is 0 or a number of its table, and the range of a name lies in the names; any other answer has range 0, 0
 pub build-tells : (rows names : List ℕ) (lent : Lent) (t : Told) (x : Lent) → Builds rows names lent t x → Tellable names t

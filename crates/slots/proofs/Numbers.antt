@@ -1,6 +1,6 @@
 -- What the slot check tells: 0 exactly where every row is read and the slots of every jump are filled; else 1, a row refusal, or 33.
 use mathlib.Core.Path.{_≡_, refl, sym, ap, ap₂, _∙_}
-use mathlib.Core.Bool.{true, false, _&&_, not}
+use mathlib.Core.Bool.{_&&_, not}
 use mathlib.Core.List.{List, [], _∷_}
 use mathlib.Core.Logic.{_↔_}
 use Prim.Native.Nat.{ℕ, _+_}
@@ -9,11 +9,11 @@ use Rattle.refusals.specs.declared.Refusal.the-variants.{RowSlice, BrokenSlot}
 use Rattle.refusals.specs.declared.Verdict.{Verdict}
 use Rattle.refusals.specs.declared.Verdict.the-variants.{Good}
 use Rattle.refusals.specs.declared.Told.{Told}
-use Rattle.refusals.specs.Numbers.{among}
 use Rattle.refusals.specs.Calls.{slotCheck, numbersOf, Listed}
 use Rattle.refusals.specs.Order.{when, orElse, firstOf}
 use Rattle.refusals.proofs.Numbered.{answers-zero}
-use Rattle.refusals.proofs.Within.{Tells, tells-when, tells-first, tells-firstOf, tells-answer, other}
+use Rattle.refusals.proofs.Within.{Tells, tells-when, tells-first, tells-firstOf}
+use Rattle.refusals.proofs.Calls.{answer-listed}
 use Rattle.rows.specs.Rows.{wellFormed}
 use Rattle.coded.specs.Coded.{readVerdict}
 use Rattle.places.specs.Items.{rowAt, rowsIn}
@@ -58,7 +58,6 @@ module _ (rows names : List ℕ) where
 
     pub check-numbers : Listed slotCheck (told .number)
     check-numbers =
-        ap (λ (t : Told). among (0 ∷ slotNumbers) (t .number)) c
-        ∙ tells-answer slotNumbers (slotCheckOf rows names .row) (slotCheckOf rows names .verdict) 0
+        answer-listed slotCheck (slotCheckOf rows names .row) (slotCheckOf rows names .verdict) 0 c
         (tells-first slotNumbers (listJudged readVerdict rows names .verdict ∷ firstOf slot (rowsIn rows) ∷ [])
         (list-tells readVerdict rows names slotNumbers refl (λ i. read-tells rows names i slotNumbers refl), (tells-firstOf slotNumbers slot (rowsIn rows) slot-tells, tt)))

@@ -13,7 +13,7 @@ use borrow.Author.Tests.{eq-eqb}
 use Rattle.refusals.specs.declared.Told.{Told}
 use Rattle.refusals.specs.declared.Verdict.{Verdict}
 use Rattle.refusals.specs.declared.Verdict.the-variants as verdict
-use Rattle.refusals.proofs.Numbered.{numbered}
+use Rattle.refusals.proofs.Numbered.{over}
 use Rattle.bounds.specs.Tables.{lookup, at}
 use Rattle.places.specs.Items.{rowsIn, kernelOf}
 use Rattle.places.specs.Left.{gather}
@@ -140,7 +140,7 @@ module _ (rs names : List ℕ) where
 -- ---- what is told and left
 good : (row : ℕ) (v : Verdict) (n : ℕ) (paired : Bool) → toldWidened (widenedIn row v n paired) .number ≡ 0 → v ≡ verdict.Good
 good row verdict.Good n paired e = refl
-good row (verdict.Refused r) n paired e = absurd (let h = numbered r .over in omega arith)
+good row (verdict.Refused r) n paired e = absurd (let h = over r in omega arith)
 
 copy-front : {rs names copy list : List ℕ} {t : ToldWidened} {copy′ list′ : List ℕ} → Widens rs names copy list t copy′ list′ → t .number ≡ 0
     → copy′ ≡ gather (copied rs names) (rowsIn rs) ++ drop (length (gather (copied rs names) (rowsIn rs))) copy

@@ -17,7 +17,7 @@ use Rattle.refusals.specs.declared.Told.{Told}
 use Rattle.refusals.specs.Numbers.{toldOf, answerIn, answered}
 use Rattle.refusals.specs.Order.{when, ofRow, foremost}
 use Rattle.refusals.proofs.Order.{foremost-here, foremost-on}
-use Rattle.refusals.proofs.Numbered.{numbered}
+use Rattle.refusals.proofs.Numbered.{over}
 use Rattle.coded.specs.Coded.{readVerdict}
 use Rattle.prefixes.proofs.Tests.{and-both}
 use Rattle.places.specs.Items.{kernelOf, rowAt, rowsIn, total}
@@ -61,7 +61,7 @@ module _ (rows names copy list : List ℕ) where
     where
       go : (v : Verdict) → row-judged .verdict ≡ v → Widens rows names copy list (toldWidened (Refused r row)) copy list
       go verdict.Good e =
-          absurd (let h = numbered r .over in let z : toldOf r .number ≡ 0 = count-zero Instructions rows names c .1 (passes-good readVerdict rows names .0 e) in omega arith)
+          absurd (let h = over r in let z : toldOf r .number ≡ 0 = count-zero Instructions rows names c .1 (passes-good readVerdict rows names .0 e) in omega arith)
       go (verdict.Refused why) e =
           settled (ofRow (row-judged .row) (verdict.Refused why)) (foremost-here row-judged (copy-judged ∷ list-judged ∷ []) e ∙ ap (ofRow (row-judged .row)) e)
           (ap toldSo (c ∙ ap (λ (v : Verdict). answered (answerIn (row-judged .row) v (total (amount Instructions) (rowAt rows names) (rowsIn rows)))) e)) refl refl

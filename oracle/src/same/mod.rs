@@ -41,6 +41,11 @@ impl Failure {
     pub fn does_not_fit(&self) -> bool {
         self.case.starts_with("DoesNotFit")
     }
+
+    /// Whether this is `VisaError::Encoding`.
+    pub fn is_encoding(&self) -> bool {
+        self.case.starts_with("Encoding(")
+    }
 }
 
 /// Why an item can't be made: the constructors' error, or a number that is of no type.

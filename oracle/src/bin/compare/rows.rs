@@ -6,8 +6,10 @@ use visa_oracle::every_row;
 use visa_oracle::linked;
 use visa_oracle::one::{one, One, NO_ROWS};
 use visa_oracle::random::Random;
+use visa_oracle::reading::{shape, Place};
 use visa_oracle::row::{Row, WIDTH};
 use visa_oracle::rows::some_row;
+use visa_oracle::same::{Failure, Single, Stop};
 use visa_oracle::search::Search;
 
 use crate::options::Options;
@@ -98,7 +100,27 @@ fn same(slice: &[u32]) -> Option<String> {
     use visa_oracle::same::{port, rust};
     let row = slice.try_into().ok()?;
     let (expected, found) = (rust::single(row), port::single(row));
-    (found != expected).then(|| format!("the Rust's types give {expected:?}, the port's {found:?}"))
+    if found != expected {
+        return Some(format!("the Rust's types give {expected:?}, the port's {found:?}"));
+    }
+    encoding(row, &expected)
+}
+
+/// Document 02: "The Rust's `Encoding` from a register constructor is already our refusal 2", but where
+/// document 01 reads no register, behind a single's kind that is no compute. A value that was made
+/// gives none.
+fn encoding(row: &Row, rust: &Result<Single, Stop>) -> Option<String> {
+    let number = linked::instruction(row).number;
+    let unread = || shape(row).is_some_and(|places| places.contains(&Place::Unread));
+    let wrong = match rust {
+        Err(Stop::Constructor(failure)) => failure.is_encoding() && number != 2 && !unread(),
+        Err(Stop::Number(_)) => false,
+        Ok(Single { parcels, bytes, .. }) => {
+            parcels.as_ref().is_err_and(Failure::is_encoding)
+                || bytes.as_ref().is_err_and(Failure::is_encoding)
+        }
+    };
+    wrong.then(|| format!("the Rust's types give {rust:?}, the port the number {number}"))
 }
 
 /// A random row, and now and then a slice that is none.
