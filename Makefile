@@ -7,33 +7,41 @@ ORACLE := target/oracle
 # What runs a program for x86-64: nothing on such a machine, `tools/run` on another.
 X86_64 := $(if $(filter x86_64,$(shell uname -m)),,sh tools/run)
 
-.PHONY: help run readback widen test docs walks docs-check oracle sample link compare compare-short check-memory speed
+COMMANDS := help run readback widen test test-commands docs walks docs-check oracle sample link compare compare-short check-memory speed count-instructions
+export KERNEL PARCELS
+
+.PHONY: $(COMMANDS)
+
+# What can't be done is said before anything is.
+UNKNOWN := $(filter-out $(COMMANDS),$(MAKECMDGOALS))
+$(if $(UNKNOWN),$(error no command '$(UNKNOWN)' is known: 'make help' lists the commands))
+MISSING := $(shell sh tools/needs $(MAKECMDGOALS))
+$(if $(MISSING),$(error $(MISSING)))
 
 help: ## this list
-	@sed -n 's/^\([a-z-]*\):.*## \(.*\)/make \1|\2/p' Makefile | column -t -s '|'
+	@awk -F ':.*## ' '/^[a-z-]*:.*## / { printf "make %-20s%s\n", $$1, $$2 }' Makefile
 
 run: ## build the bench program and run it on KERNEL (default: examples/branch.kernel)
-	@rt check bench
-	@sh tools/run target/bin/bench < $(KERNEL)
+	@sh tools/program $@ bench KERNEL "$$KERNEL"
 
 readback: ## build the program readback and run it on PARCELS (default: examples/branch.parcels)
-	@rt check readback
-	@sh tools/run target/bin/readback < $(PARCELS)
+	@sh tools/program $@ readback PARCELS "$$PARCELS"
 
 widen: KERNEL := examples/sum.kernel
 widen: ## build the program widen and run it on KERNEL (default: examples/sum.kernel): the list with loop tails at full width, and what was changed
-	@rt check widen
-	@sh tools/run target/bin/widen < $(KERNEL)
+	@sh tools/program $@ widen KERNEL "$$KERNEL"
 
 test: ## the verdict: prove every crate from nothing, try the must-fail edits, run the programs
-	@rt ci
+	@sh tools/progress $@ ci
+
+test-commands: ## try the commands themselves: what they say of their progress, of failures, of what is missing and of refusals
+	@sh tools/test-commands
 
 docs: ## print anew what the documents take from the tree: docs/FORMS.md, its pictures, the tables of docs/PROVED.md and docs/ARCHITECTURE.md; and from a run: docs/ENGINES.md
 	@python3 tools/forms
 	@python3 tools/believed
 	@python3 tools/map
-	@mkdir -p target
-	@rt check engines >target/docs.log || ! grep 'NOT PROVED' target/docs.log
+	@sh tools/progress $@ check engines || ! grep -q 'NOT PROVED' target/$@.log
 	@python3 tools/engines
 
 walks: ## print anew the proofs of the functions that hold the lent loop records
@@ -44,8 +52,7 @@ docs-check: ## check that the documents, and the printed proofs, are what the de
 	@python3 tools/forms --check
 	@python3 tools/believed --check
 	@python3 tools/map --check
-	@mkdir -p target
-	@rt check bench readback widen layouts engines >target/docs-check.log || { tail -n 5 target/docs-check.log; exit 1; }
+	@sh tools/progress $@ check bench readback widen layouts engines
 	@python3 tools/examples
 	@python3 tools/engines --check
 
@@ -53,7 +60,7 @@ oracle: ## build the driver over the original Rust (QC_ASM=folder of its sources
 	@sh oracle/build
 
 link: ## prove the library and write target/staticlib/liblink.a
-	@rt staticlib link
+	@sh tools/progress $@ staticlib link
 
 sample: oracle ## make the stored answers of the original Rust anew
 	@sh oracle/store
@@ -70,16 +77,15 @@ compare-short: link ## the same on fewer inputs, a minute or two
 	@$(X86_64) $(ORACLE)/compare all --short
 	@sh include/test
 
-check-memory: link ## run the comparison on few inputs under valgrind, some minutes
+check-memory: link ## run the comparison on few inputs under valgrind, some minutes; on x86-64
 	@LINK_LIB=target/staticlib sh oracle/build compare
 	@sh include/test
 	@sh oracle/check-memory
 
-speed: link ## time both engines of the port, its reader of parcels, its widening of tails and the original Rust, and write docs/SPEED.md and its plot; on another processor than x86-64 count instructions, a quarter of an hour
-ifeq ($(X86_64),)
+speed: link ## time both engines of the port, its reader of parcels, its widening of tails and the original Rust, and write docs/SPEED.md and its plot; on x86-64
 	@LINK_LIB=target/staticlib sh oracle/build compare
 	@$(ORACLE)/compare speed --write docs
-else
+
+count-instructions: link ## count the instructions of the same calls under the kit's emulator, on another processor than x86-64, a quarter of an hour
 	@sh oracle/build
 	@python3 tools/count-instructions
-endif
