@@ -2,7 +2,7 @@
 
 use crate::row::{self, Row};
 use crate::visa::VisaInstruction;
-use crate::{error, plain, Register, VisaError};
+use crate::{error, Register, VisaError};
 
 /// What the ALU does in a multifunction compute.
 ///
@@ -145,7 +145,7 @@ impl Compute {
     fn new(places: [u32; PLACES]) -> Result<Self, VisaError> {
         let alone = Self { places: places.map(|place| place as u8), field: 0 };
         let parcels =
-            plain::instruction(&alone.row(32, &[])).map_err(|refusal| error::of(refusal, &[]))?;
+            row::encoded(|row| alone.put(row, 32)).map_err(|refusal| error::of(refusal, &[]))?;
         let [.., middle, low] = *parcels else { unreachable!("a compute takes three parcels") };
         let field = (u32::from(middle) << 16 | u32::from(low)) % (1 << FIELD_BITS);
         Ok(Self { field, ..alone })
@@ -164,21 +164,15 @@ impl Compute {
         compute.ok().map(Some)
     }
 
-    /// The row of this kind with the compute first and these fields after it.
-    pub(crate) fn row(self, kind: u32, after: &[u32]) -> Row {
-        row_of(kind, self.places.map(u32::from), after)
+    /// Puts a kind and the compute behind it at the front of a row of zeros.
+    #[inline]
+    pub(crate) fn put(self, row: &mut Row, kind: u32) {
+        row[0] = kind;
+        row[1..][..PLACES].copy_from_slice(&self.places.map(u32::from));
     }
 }
 
 /// Whether the kind's first three places are registers: so it is with every compute.
 fn has_register_fields(kind: u32) -> bool {
     matches!(kind, 0..=8 | 25..=27)
-}
-
-/// The row of this kind with these places first and these fields after them.
-pub(crate) fn row_of(kind: u32, places: [u32; PLACES], after: &[u32]) -> Row {
-    let mut row = row::row(&[kind]);
-    row[1..1 + PLACES].copy_from_slice(&places);
-    row[1 + PLACES..][..after.len()].copy_from_slice(after);
-    row
 }

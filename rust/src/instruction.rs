@@ -175,24 +175,27 @@ impl Instruction {
     }
 
     fn parcels(&self) -> plain::Parcels {
-        plain::instruction(&self.row()).expect("every scalar instruction encodes")
+        row::encoded(|row| self.put(row)).expect("every scalar instruction encodes")
     }
 
-    pub(crate) fn row(&self) -> Row {
+    /// Puts its numbers into a row of zeros.
+    #[inline]
+    pub(crate) fn put(&self, row: &mut Row) {
+        use row::put_registers as put;
         match *self {
-            Self::FloatAdd { dst, lhs, rhs } => row::registers(0, &[dst, lhs, rhs]),
-            Self::FloatSub { dst, lhs, rhs } => row::registers(1, &[dst, lhs, rhs]),
-            Self::FloatMul { dst, lhs, rhs } => row::registers(2, &[dst, lhs, rhs]),
-            Self::FloatMin { dst, lhs, rhs } => row::registers(3, &[dst, lhs, rhs]),
-            Self::FloatMax { dst, lhs, rhs } => row::registers(4, &[dst, lhs, rhs]),
-            Self::FloatNeg { dst, src } => row::registers(5, &[dst, src]),
-            Self::FloatAbs { dst, src } => row::registers(6, &[dst, src]),
-            Self::IntegerSub { dst, lhs, rhs } => row::registers(7, &[dst, lhs, rhs]),
-            Self::FloatPass { dst, src } => row::registers(8, &[dst, src]),
-            Self::LoadImmediate { dst, value } => row::row(&[9, dst.index().into(), value]),
-            Self::Move { dst, src } => row::registers(10, &[dst, src]),
-            Self::LoadDm { dst, address } => row::row(&[11, dst.index().into(), address]),
-            Self::StoreDm { src, address } => row::row(&[12, src.index().into(), address]),
+            Self::FloatAdd { dst, lhs, rhs } => put(row, 0, [dst, lhs, rhs]),
+            Self::FloatSub { dst, lhs, rhs } => put(row, 1, [dst, lhs, rhs]),
+            Self::FloatMul { dst, lhs, rhs } => put(row, 2, [dst, lhs, rhs]),
+            Self::FloatMin { dst, lhs, rhs } => put(row, 3, [dst, lhs, rhs]),
+            Self::FloatMax { dst, lhs, rhs } => put(row, 4, [dst, lhs, rhs]),
+            Self::FloatNeg { dst, src } => put(row, 5, [dst, src]),
+            Self::FloatAbs { dst, src } => put(row, 6, [dst, src]),
+            Self::IntegerSub { dst, lhs, rhs } => put(row, 7, [dst, lhs, rhs]),
+            Self::FloatPass { dst, src } => put(row, 8, [dst, src]),
+            Self::LoadImmediate { dst, value } => row::put(row, [9, dst.index().into(), value]),
+            Self::Move { dst, src } => put(row, 10, [dst, src]),
+            Self::LoadDm { dst, address } => row::put(row, [11, dst.index().into(), address]),
+            Self::StoreDm { src, address } => row::put(row, [12, src.index().into(), address]),
         }
     }
 

@@ -1,5 +1,7 @@
 //! A kernel, item by item.
 
+use std::iter;
+
 use crate::plain::{self, Lent, LoopRecord, CHANGE, JUMP_ENTRY, LABEL_ENTRY, ROW};
 use crate::row::{self, Row};
 use crate::visa::{self, Condition, LoopCount, LoopMode, VisaInstruction};
@@ -19,16 +21,17 @@ use crate::{error, ItemError, VisaError};
 /// ```
 #[derive(Debug, Clone, Default, PartialEq, Eq)]
 pub struct VisaProgram {
-    rows: Vec<u32>,
+    rows: Vec<Row>,
     names: Vec<u8>,
-    /// No build takes more parcels than so many.
-    most_parcels: usize,
     labels: usize,
     jumps: usize,
+    leaf_returns: usize,
 }
 
 /// The bytes of names that a row's 32-bit numbers reach.
 const MOST_NAME_BYTES: usize = u32::MAX as usize;
+/// There is room for so many rows once the first is added.
+const FIRST_ROWS: usize = 64;
 
 impl VisaProgram {
     /// A kernel without items.
@@ -51,9 +54,13 @@ impl VisaProgram {
     /// # Ok::<(), lhodrupesh::Error>(())
     /// ```
     pub fn push(&mut self, instruction: impl Into<VisaInstruction>) {
-        let instruction = instruction.into();
-        self.most_parcels += if instruction == VisaInstruction::LeafReturn { 6 } else { 3 };
-        self.add(&instruction.row());
+        self.add_instruction(instruction.into());
+    }
+
+    /// The same, once for every type that [`push`](Self::push) takes.
+    fn add_instruction(&mut self, instruction: VisaInstruction) {
+        self.leaf_returns += usize::from(matches!(instruction, VisaInstruction::LeafReturn));
+        instruction.put(self.add());
     }
 
     /// Adds a label at this place. A second one of its name is refused by the build.
@@ -69,7 +76,7 @@ impl VisaProgram {
     pub fn label(&mut self, name: impl Into<String>) {
         let [start, length] = self.add_name(&name.into());
         self.labels += 1;
-        self.add(&row::row(&[48, start, length]));
+        row::put(self.add(), [48, start, length]);
     }
 
     /// Adds a jump to a label that may stand anywhere in the kernel.
@@ -86,8 +93,7 @@ impl VisaProgram {
     pub fn jump(&mut self, condition: Condition, target: impl Into<String>) {
         let [start, length] = self.add_name(&target.into());
         self.jumps += 1;
-        self.most_parcels += 3;
-        self.add(&row::row(&[49, condition as u32, start, length]));
+        row::put(self.add(), [49, condition as u32, start, length]);
     }
 
     /// Starts a loop over the instructions up to the [`loop_end`](Self::loop_end) that pairs with
@@ -101,8 +107,7 @@ impl VisaProgram {
     /// assert_eq!(program.parcels(), Err(VisaError::UnclosedLoop));
     /// ```
     pub fn loop_begin(&mut self, count: LoopCount, mode: LoopMode) {
-        self.most_parcels += 3;
-        self.add(&count.row(mode));
+        count.put(self.add(), mode);
     }
 
     /// Ends the innermost open loop with the instruction before.
@@ -116,7 +121,7 @@ impl VisaProgram {
     /// assert_eq!(program.parcels(), Err(VisaError::EmptyLoop));
     /// ```
     pub fn loop_end(&mut self) {
-        self.add(&row::row(&[51]));
+        row::put(self.add(), [51]);
     }
 
     /// How many instructions there are: a jump or a loop start is one, a `LeafReturn` four.
@@ -200,17 +205,14 @@ impl VisaProgram {
             let error = error::does_not_fit("bytes of names", MOST_NAME_BYTES);
             return Err(ItemError { error, item: None });
         }
-        let mut parcels = vec![0; self.most_parcels.min(plain::MOST_PARCELS)];
-        let mut labels = vec![0; LABEL_ENTRY * self.labels.min(plain::MOST_LABELS)];
-        let mut jumps = vec![0; JUMP_ENTRY * self.jumps.min(plain::MOST_JUMPS)];
+        let mut parcels = zeros(self.most_parcels());
+        let labels = LABEL_ENTRY * self.labels.min(plain::MOST_LABELS);
+        let jumps = JUMP_ENTRY * self.jumps.min(plain::MOST_JUMPS);
+        let mut tables = zeros(labels + jumps);
+        let (labels, jumps) = tables.split_at_mut(labels);
         let mut loops = [LoopRecord::default(); plain::MOST_LOOPS];
-        let mut lent = Lent {
-            parcels: &mut parcels,
-            labels: &mut labels,
-            jumps: &mut jumps,
-            loops: &mut loops,
-        };
-        let count = plain::build(&self.rows, &self.names, &mut lent)
+        let mut lent = Lent { parcels: &mut parcels, labels, jumps, loops: &mut loops };
+        let count = plain::build(self.rows(), &self.names, &mut lent)
             .map_err(|refused| error::in_item(refused, &self.names, 0))?;
         parcels.truncate(count);
         Ok(parcels)
@@ -253,8 +255,9 @@ impl VisaProgram {
     /// ```
     pub fn widened(&self) -> Result<Widened, VisaError> {
         let mut program = self.clone();
-        let mut changes = vec![0; CHANGE * self.rows.len() / ROW];
-        let widened = plain::widen(&self.rows, &self.names, &mut program.rows, &mut changes)
+        let mut changes = vec![0; CHANGE * self.rows.len()];
+        let copy = program.rows.as_flattened_mut();
+        let widened = plain::widen(self.rows(), &self.names, copy, &mut changes)
             .map_err(|refused| error::of(refused.refusal, &self.names))?;
         let changes = changes.chunks_exact(CHANGE).take(widened.changes);
         let changes = changes.map(|change| self.change(change[0] as usize)).collect();
@@ -263,9 +266,8 @@ impl VisaProgram {
 
     /// The change of an item.
     fn change(&self, item: usize) -> Change {
-        let row: &Row = self.rows[ROW * item..][..ROW].try_into().expect("seventeen numbers");
-        let old =
-            VisaInstruction::from_row(row).expect("a row that was changed says an instruction");
+        let old = VisaInstruction::from_row(&self.rows[item])
+            .expect("a row that was changed says an instruction");
         Change { item, old }
     }
 
@@ -285,7 +287,7 @@ impl VisaProgram {
     /// assert_eq!(check(&program), Ok(()));
     /// ```
     pub fn rows(&self) -> &[u32] {
-        &self.rows
+        self.rows.as_flattened()
     }
 
     /// The names that the rows' ranges lie in. `qc_asm` has nothing of this name.
@@ -299,8 +301,20 @@ impl VisaProgram {
         &self.names
     }
 
-    fn add(&mut self, row: &Row) {
-        self.rows.extend(row);
+    /// A row of zeros, put at the end of the rows. It is made there: `Vec::push` would copy it.
+    #[inline]
+    fn add(&mut self) -> &mut Row {
+        if self.rows.len() == self.rows.capacity() {
+            self.grow();
+        }
+        self.rows.extend_from_slice(&[[0; ROW]]);
+        self.rows.last_mut().expect("the row just added")
+    }
+
+    /// Makes room for as many rows again.
+    #[cold]
+    fn grow(&mut self) {
+        self.rows.reserve(self.rows.len().max(FIRST_ROWS));
     }
 
     /// The range of a name, put at the end of the names. Beyond what a row's numbers reach it is
@@ -314,8 +328,20 @@ impl VisaProgram {
         [start as u32, name.len() as u32]
     }
 
+    /// No build takes more parcels than so many: six are those of a `LeafReturn`, three the most of any
+    /// other item.
+    fn most_parcels(&self) -> usize {
+        (3 * (self.rows.len() + self.leaf_returns)).min(plain::MOST_PARCELS)
+    }
+
     /// The rows in parts, each no longer than a list may be.
     fn chunks(&self) -> impl Iterator<Item = &[u32]> {
-        self.rows.chunks(ROW * plain::MOST_ROWS)
+        self.rows.chunks(plain::MOST_ROWS).map(<[Row]>::as_flattened)
     }
+}
+
+/// So many zeros. They are written and not asked of the allocator: C's `malloc` keeps small blocks at
+/// hand, `calloc` may not.
+fn zeros<T: Copy + From<u8>>(count: usize) -> Vec<T> {
+    iter::repeat_n(T::from(0), count).collect()
 }

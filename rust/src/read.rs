@@ -38,10 +38,12 @@ impl Read {
     /// assert_eq!(Read::LoopStart { count, mode, offset: 3 }.row()[..4], [50, 0, 16, 1]);
     /// ```
     pub fn row(self) -> [u32; ROW] {
+        let mut row = [0; ROW];
         match self {
-            Self::Instruction(instruction) => instruction.row(),
-            Self::LoopStart { count, mode, .. } => count.row(mode),
+            Self::Instruction(instruction) => instruction.put(&mut row),
+            Self::LoopStart { count, mode, .. } => count.put(&mut row, mode),
         }
+        row
     }
 
     /// What a row says that was read from these parcels on.

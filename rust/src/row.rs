@@ -1,24 +1,34 @@
 //! Rows of seventeen numbers: a kind, its fields, zeros. And values of numbers, where they say one.
 
-use crate::plain::ROW;
+use crate::plain::{self, Parcels, Refusal, ROW};
 use crate::{IndexRegister, ModifyRegister, Register, UniversalRegister};
 
 pub(crate) type Row = [u32; ROW];
 
-/// The row that begins with these numbers.
-pub(crate) fn row(numbers: &[u32]) -> Row {
+/// The parcels of the instruction that is put into a row of zeros. It is put there and not copied: to
+/// read at once in wide pieces what was written in narrow ones is slow.
+#[inline]
+pub(crate) fn encoded(put: impl FnOnce(&mut Row)) -> Result<Parcels, Refusal> {
     let mut row = [0; ROW];
-    row[..numbers.len()].copy_from_slice(numbers);
-    row
+    put(&mut row);
+    plain::instruction(&row)
 }
 
-/// The row of a kind whose fields are data registers.
-pub(crate) fn registers(kind: u32, fields: &[Register]) -> Row {
-    let mut row = row(&[kind]);
-    for (place, field) in row[1..].iter_mut().zip(fields) {
-        *place = field.index().into();
-    }
-    row
+/// Puts a kind and its fields at the front of a row of zeros.
+#[inline]
+pub(crate) fn put<const COUNT: usize>(row: &mut Row, numbers: [u32; COUNT]) {
+    row[..COUNT].copy_from_slice(&numbers);
+}
+
+/// Puts a kind whose fields are data registers at the front of a row of zeros.
+#[inline]
+pub(crate) fn put_registers<const COUNT: usize>(
+    row: &mut Row,
+    kind: u32,
+    fields: [Register; COUNT],
+) {
+    row[0] = kind;
+    row[1..][..COUNT].copy_from_slice(&fields.map(|field| field.index().into()));
 }
 
 /// The data register of a number.

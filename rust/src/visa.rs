@@ -172,13 +172,13 @@ pub enum LoopCount {
 }
 
 impl LoopCount {
-    /// The row of a loop start with this count.
-    pub(crate) fn row(self, mode: LoopMode) -> Row {
+    /// Puts a loop start with this count into a row of zeros.
+    pub(crate) fn put(self, row: &mut Row, mode: LoopMode) {
         let [by_register, count] = match self {
             Self::Immediate(count) => [0, count.into()],
             Self::Register(register) => [1, code(register)],
         };
-        row::row(&[50, by_register, count, mode as u32])
+        row::put(row, [50, by_register, count, mode as u32]);
     }
 
     /// The count that a loop start's fields say.
@@ -393,7 +393,7 @@ impl VisaInstruction {
     /// assert_eq!(far.parcels(), Err(VisaError::CallTargetOutOfRange(0x100_0000)));
     /// ```
     pub fn parcels(self) -> Result<Vec<u16>, VisaError> {
-        let parcels = plain::instruction(&self.row());
+        let parcels = row::encoded(|row| self.put(row));
         parcels.map(|parcels| parcels.to_vec()).map_err(|refusal| error::of(refusal, &[]))
     }
 
@@ -417,39 +417,42 @@ impl VisaInstruction {
     /// assert_eq!(VisaInstruction::CJump { target: 7 }.row()[..3], [29, 7, 0]);
     /// ```
     pub fn row(self) -> [u32; plain::ROW] {
+        let mut row = [0; plain::ROW];
+        self.put(&mut row);
+        row
+    }
+
+    /// Puts its numbers into a row of zeros.
+    #[rustfmt::skip]
+    pub(crate) fn put(self, row: &mut Row) {
+        use row::{put, put_registers};
         use VisaInstruction as V;
         match self {
-            V::Scalar(instruction) => instruction.row(),
-            V::Transfer { dst, src } => row::row(&[16, code(dst), code(src)]),
-            V::LoadImmediate { dst, value } => row::row(&[17, code(dst), value]),
-            V::ModifyIndex { index, offset } => row::row(&[18, index_of(index), offset as u32]),
-            V::LoadDmPostModify { dst, index, modifier } => dm_modify(19, dst, index, modifier),
-            V::StoreDmPostModify { src, index, modifier } => dm_modify(20, src, index, modifier),
-            V::LoadDmPreModify { dst, index, modifier } => dm_modify(21, dst, index, modifier),
-            V::StoreDmPreModify { src, index, modifier } => dm_modify(22, src, index, modifier),
-            V::LoadDmOffset { dst, index, offset } => dm_offset(23, dst, index, offset),
-            V::StoreDmOffset { src, index, offset } => dm_offset(24, src, index, offset),
-            V::IntegerSubOne { dst, src } => row::registers(25, &[dst, src]),
-            V::IntegerPass { dst, src } => row::registers(26, &[dst, src]),
-            V::IntegerCompareUnsigned { lhs, rhs } => row::registers(27, &[lhs, rhs]),
-            V::JumpRelative { condition, offset, delayed } => {
-                row::row(&[28, condition as u32, offset as u32, delayed.into()])
-            }
-            V::CJump { target } => row::row(&[29, target]),
-            V::PushImmediate { value } => row::row(&[30, value]),
-            V::LeafReturn => row::row(&[31]),
-            V::Compute(compute) => compute.row(32, &[]),
-            V::DualMove { compute, dm, pm } => {
-                beside(compute, 33, &[data_access(dm), data_access(pm)].concat())
-            }
-            V::MemoryMove { compute, access } => beside(compute, 34, &memory_access(access)),
-            V::StoreImmediate { index, modifier, value } => {
-                row::row(&[35, index_of(index), modifier.index().into(), value])
-            }
-            V::BitSetMode1 { mask } => row::row(&[36, mask]),
-            V::BitClearMode1 { mask } => row::row(&[37, mask]),
-            V::Nop => row::row(&[38]),
-            V::WideNop => row::row(&[39]),
+            V::Scalar(instruction) => instruction.put(row),
+            V::Transfer { dst, src } => put(row, [16, code(dst), code(src)]),
+            V::LoadImmediate { dst, value } => put(row, [17, code(dst), value]),
+            V::ModifyIndex { index, offset } => put(row, [18, index_of(index), offset as u32]),
+            V::LoadDmPostModify { dst, index, modifier } => put(row, [19, code(dst), index_of(index), modifier_of(modifier)]),
+            V::StoreDmPostModify { src, index, modifier } => put(row, [20, code(src), index_of(index), modifier_of(modifier)]),
+            V::LoadDmPreModify { dst, index, modifier } => put(row, [21, code(dst), index_of(index), modifier_of(modifier)]),
+            V::StoreDmPreModify { src, index, modifier } => put(row, [22, code(src), index_of(index), modifier_of(modifier)]),
+            V::LoadDmOffset { dst, index, offset } => put(row, [23, code(dst), index_of(index), offset as u32]),
+            V::StoreDmOffset { src, index, offset } => put(row, [24, code(src), index_of(index), offset as u32]),
+            V::IntegerSubOne { dst, src } => put_registers(row, 25, [dst, src]),
+            V::IntegerPass { dst, src } => put_registers(row, 26, [dst, src]),
+            V::IntegerCompareUnsigned { lhs, rhs } => put_registers(row, 27, [lhs, rhs]),
+            V::JumpRelative { condition, offset, delayed } => put(row, [28, condition as u32, offset as u32, delayed.into()]),
+            V::CJump { target } => put(row, [29, target]),
+            V::PushImmediate { value } => put(row, [30, value]),
+            V::LeafReturn => put(row, [31]),
+            V::Compute(compute) => compute.put(row, 32),
+            V::DualMove { compute, dm, pm } => put_move(row, 33, compute, [data_access(dm), data_access(pm)].as_flattened()),
+            V::MemoryMove { compute, access } => put_move(row, 34, compute, &memory_access(access)),
+            V::StoreImmediate { index, modifier, value } => put(row, [35, index_of(index), modifier_of(modifier), value]),
+            V::BitSetMode1 { mask } => put(row, [36, mask]),
+            V::BitClearMode1 { mask } => put(row, [37, mask]),
+            V::Nop => put(row, [38]),
+            V::WideNop => put(row, [39]),
         }
     }
 
@@ -556,33 +559,26 @@ fn index_of(register: IndexRegister) -> u32 {
     register.index().into()
 }
 
-fn dm_modify(
-    kind: u32,
-    register: UniversalRegister,
-    index: IndexRegister,
-    modifier: ModifyRegister,
-) -> Row {
-    row::row(&[kind, code(register), index_of(index), modifier.index().into()])
+fn modifier_of(register: ModifyRegister) -> u32 {
+    register.index().into()
 }
 
-fn dm_offset(kind: u32, register: UniversalRegister, index: IndexRegister, offset: i32) -> Row {
-    row::row(&[kind, code(register), index_of(index), offset as u32])
-}
-
-/// The row of a move, with a compute beside it or none.
-fn beside(compute: Option<Compute>, kind: u32, fields: &[u32]) -> Row {
+/// Puts a move into a row of zeros: its kind, the compute beside it or none, its other fields.
+#[inline]
+fn put_move(row: &mut Row, kind: u32, compute: Option<Compute>, fields: &[u32]) {
     match compute {
-        Some(compute) => compute.row(kind, fields),
-        None => compute::row_of(kind, [0; compute::PLACES], fields),
+        Some(compute) => compute.put(row, kind),
+        None => row[0] = kind,
     }
+    row[1 + compute::PLACES..][..fields.len()].copy_from_slice(fields);
 }
 
 fn data_access(access: DataAccess) -> [u32; 4] {
     let DataAccess { direction, register, index, modifier } = access;
-    [direction as u32, register.index().into(), index_of(index), modifier.index().into()]
+    [direction as u32, register.index().into(), index_of(index), modifier_of(modifier)]
 }
 
 fn memory_access(access: MemoryAccess) -> [u32; 5] {
     let MemoryAccess { direction, register, index, modifier, update } = access;
-    [direction as u32, code(register), index_of(index), modifier.index().into(), update as u32]
+    [direction as u32, code(register), index_of(index), modifier_of(modifier), update as u32]
 }
