@@ -7,7 +7,7 @@ use items::MemoryAccess;
 use items::OptionalCompute;
 
 // Whether a code is an I, M, L or B register of DAG2 (pm), or of DAG1.
-fn in_dag(code: u8, pm: bool) -> bool
+pub fn in_dag(code: u8, pm: bool) -> bool
     ensures { λ r. ⌜ r ≡ inDag code pm ⌝ }
 {
     let class = code / 16;

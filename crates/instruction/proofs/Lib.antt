@@ -1,3 +1,4 @@
+pub mod Short
 pub mod Others
 pub mod Single
 pub mod Numbers

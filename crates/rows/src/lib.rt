@@ -51,7 +51,7 @@ pub fn well_formed(rows: &[u32]) -> bool
 }
 
 // The condition with a number.
-fn condition_of(v: u32) -> Condition
+pub fn condition_of(v: u32) -> Condition
     ensures { λ r. ⌜ r ≡ conditionOf v ⌝ }
 {
     match v {

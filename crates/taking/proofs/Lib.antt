@@ -1,3 +1,4 @@
+pub mod Skims
 pub mod NextRow
 pub mod Records
 pub mod Turning

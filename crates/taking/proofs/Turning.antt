@@ -3,10 +3,11 @@ use mathlib.Core.Path.{_≡_, refl, sym, ap, ap₂, _∙_, subst}
 use mathlib.Core.Logic.{_⊎_, inl, inr}
 use mathlib.Core.Bool.{Bool, true, false, cond}
 use mathlib.Core.List.{List, []}
-use Prim.Native.Nat.{ℕ, _+_, _-_, _*_, _≤_, _<_}
+use Prim.Native.Nat.{ℕ, zero, suc, _+_, _-_, _*_, _≤_, _<_}
 use native.Mathlib.Omega.{arith}
 use lib.ListN.{length, getD, set}
 use lib.Dec.{ltb}
+use lib.Seq.{sets, set-out}
 use borrow.Author.Tests.{lt-ltb, le-ltb, ltb-true, ltb-false}
 use Rattle.refusals.specs.declared.Refusal.{Refusal}
 use Rattle.refusals.specs.declared.Refusal.the-variants.{RowSlice, UnclosedLoop}
@@ -17,14 +18,15 @@ use Rattle.rows.specs.Rows.{wellFormed}
 use Rattle.rows.proofs.Limit.{rows-few}
 use Rattle.places.specs.declared.OpenLoop.{OpenLoop}
 use Rattle.places.specs.declared.Rooms.{Rooms}
-use Rattle.places.specs.Items.{Kernel, kernelOf, rowAt, rowsIn}
+use Rattle.encode.specs.Encoding.{formParcels}
+use Rattle.places.specs.Items.{Kernel, kernelOf, rowAt, rowsIn, sizeOf}
 use Rattle.refusals.specs.Order.{when, orElse}
 use Rattle.places.specs.Left.{Lent, zeroLoop, withLoops}
 use Rattle.refusals.proofs.Order.{refused-good}
 use Rattle.checks.specs.Rooming.{RoomingIn}
 use Rattle.machine.specs.declared.Step.{Step}
 use Rattle.machine.specs.declared.Step.the-variants.{Stop}
-use Rattle.machine.specs.Machine.{Mem, memOf, check, next, topOf, stepRow, stepBy, stepState, loopsBy, GoodFor}
+use Rattle.machine.specs.Machine.{Mem, memOf, check, next, topOf, stepRow, stepBy, stepState, loopsBy, advanced, withParcels, GoodFor}
 use Rattle.refusals.specs.Scan.{scanEnd, Going, Came, going-start, going-next, going-stop, going-end}
 use Rattle.machine.specs.Fold.{rowChk, zeroState, memAt, rowNext}
 use Rattle.machine.specs.Finish.{level, closeVerdict, closed}
@@ -33,8 +35,9 @@ use Rattle.prefixes.proofs.Names.{row-fine}
 use Rattle.agrees.proofs.Keeps.{keep, good-zero}
 use Rattle.taking.specs.declared.Taking.{Taking}
 use Rattle.taking.specs.declared.Turned.{Turned}
-use Rattle.taking.specs.Taking.{formed, rowsTaken, startOf, goingOn, moreOf, wentOn, turnedOf, lateOf, RowTurn, LateTurn, Stepping, Onward, Ready, Turnt, tookVerdict, tookRow, tookMem, Took}
+use Rattle.taking.specs.Taking.{formed, rowsTaken, startOf, goingOn, moreOf, wentOn, turnedOf, lateOf, Went, StepTurn, RowTurn, LateTurn, Next, Stepping, Onward, Ready, Turnt, tookVerdict, tookRow, tookMem, Took}
 use Rattle.taking.proofs.NextRow.{row-next, row-last}
+use Rattle.taking.proofs.Skims.{skimmed-good, skimmed-depth, skimmed-row}
 use Rattle.taking.proofs.Records.{turn-loops, turn-on, deeper-by-one, mem-eq, closed-none, closed-one, popped, good-less}
 
 -- ---- one turn
@@ -103,10 +106,93 @@ module _ (rs ns : List ℕ) (r : Rooms) (lent₀ : Lent) where
   taken-all : wellFormed (length rs) ≡ true → rowsTaken rs ≡ rowsIn rs
   taken-all w = ap (λ (x : Bool). cond x (rowsIn rs) 0) w
 
-  module _ (t : Taking) (lent : Lent) where
+  -- ---- a row the long way, of which a turn leaves this taking and the record in its slot
+  module _ (t : Taking) (lent : Lent) (x : Taking) (lent′ : Lent) (turn : Turned) (taking : x ≡ turn .taking) (loops : lent′ .loops ≡ set (lent .loops) (turn .slot) (turn .rec))
+      (o : StepTurn (kernelOf rs ns) r t (withLoops lent []) (topOf (t .state) (lent .loops)) (length (lent .loops)) turn (withLoops lent′ [])) where
     abbrev M : Mem
     M = memOf (t .state) lent
 
+    abbrev top : OpenLoop
+    top = topOf (t .state) (lent .loops)
+
+    abbrev slots : ℕ
+    slots = length (lent .loops)
+
+    -- the turn and the loop table, by the step that the row made
+    as-turned : {z : Step} → o .step ≡ z → turn ≡ turnedOf t z top slots
+    as-turned e = o .answer ∙ ap (λ (b : Step). turnedOf t b top slots) e
+
+    as-looped : {z : Step} → o .step ≡ z → lent′ .loops ≡ loopsBy z (t .state) (lent .loops)
+    as-looped {z} e = loops ∙ ap (λ (b : Turned). set (lent .loops) (b .slot) (b .rec)) (as-turned e) ∙ turn-loops t z top (lent .loops)
+
+    module _ (a : Rowing t lent) (h : t .row < rowsIn rs) where
+      few : t .row < rowsTaken rs
+      few = subst (λ (b : ℕ). t .row < b) (sym (taken-all (a .rows-formed))) h
+
+      -- a row, taken in
+      row-good : check ns r (it (t .row)) M ≡ Good → Rowing x lent′
+      row-good v =
+          let d = o .stepped in
+          let step : o .step ≡ stepRow (it (t .row)) (t .state) = rw v at (d .answer) in
+          let on : x ≡ wentOn t (stepState (stepRow (it (t .row)) (t .state)) (t .state)) = taking ∙ ap (λ (b : Turned). b .taking) (as-turned step) ∙ turn-on t (it (t .row)) (t .state) top slots in
+          let u : memOf (x .state) lent′ ≡ next (t .row) (it (t .row)) M = mem-eq (ap (λ (b : Taking). b .state) on) (rw v at (d .parcels)) (rw v at (d .labels)) (rw v at (d .jumps)) (as-looped step) in
+          record {
+            rows-formed = a .rows-formed;
+            unstopped = ap (λ (b : Taking). b .verdict) on;
+            going = subst (λ (b : ℕ). Going C N m₀ (rowsTaken rs) b (memOf (x .state) lent′)) (sym (ap (λ (b : Taking). b .row) on)) (going-next C N m₀ (a .going) few v u);
+            good = subst (λ (m : Mem). GoodFor ns r m) (sym u) (keep ns r (t .row) (it (t .row)) M (a .good) (row-fine rs ns (t .row)) v);
+          }
+
+      -- a row, refused
+      row-refused : (why : Refusal) → check ns r (it (t .row)) M ≡ Refused why → Closing x lent′
+      row-refused why v =
+          let d = o .stepped in
+          let step : o .step ≡ Stop why = rw v at (d .answer) in
+          let on : x ≡ record { state = t .state; row = t .row; verdict = Refused why } = taking ∙ ap (λ (b : Turned). b .taking) (as-turned step) in
+          let u : memOf (x .state) lent′ ≡ M = mem-eq (ap (λ (b : Taking). b .state) on) (rw v at (d .parcels)) (rw v at (d .labels)) (rw v at (d .jumps)) (as-looped step) in
+          let c = going-stop C N m₀ (a .going) few v u in
+          record {
+            why = why;
+            stopped = ap (λ (b : Taking). b .verdict) on;
+            verdict = final (a .rows-formed) (Refused why) (memOf (x .state) lent′) (c .outcome) (came-mem c);
+            row = ap (λ (b : Taking). b .row) on ∙ c .end;
+            rest = ap closed (came-mem c);
+            good = subst (λ (m : Mem). GoodFor ns r m) (sym u) (a .good);
+          }
+
+      by-row : (v : Verdict) → check ns r (it (t .row)) M ≡ v → Along x lent′
+      by-row Good v = inl (row-good v)
+      by-row (Refused why) v = inr (row-refused why v)
+
+    -- it leaves less to do
+    by-step : t .row < rowsIn rs → t .verdict ≡ Good → (v : Verdict) → x ≡ turnedOf t (stepBy v (stepRow (it (t .row)) (t .state))) top slots .taking → left rs x < left rs t
+    by-step h g Good e =
+        let on : x ≡ wentOn t (stepState (stepRow (it (t .row)) (t .state)) (t .state)) = e ∙ turn-on t (it (t .row)) (t .state) top slots in
+        let d = deeper-by-one (it (t .row)) (t .state) in
+        rw (on, g) (omega arith)
+    by-step h g (Refused why) e = rw (e, g) (omega arith)
+
+    row-less : t .row < rowsIn rs → t .verdict ≡ Good → left rs x < left rs t
+    row-less h g = by-step h g (check ns r (it (t .row)) M) (taking ∙ ap (λ (b : Turned). b .taking) (as-turned (o .stepped .answer)))
+
+  -- ---- the rows that are seen at a glance before it
+  seen-on : (t : Taking) (lent : Lent) → Rowing t lent → (n : ℕ) (x : Taking) (q : List ℕ) → Went (kernelOf rs ns) r t (lent .parcels) n x q → Rowing x (withParcels lent q)
+  seen-on t lent a zero x q (e, d) = rw (e, d) a
+  seen-on t lent a (suc n) x q h =
+      let b = seen-on t lent a n (h .y) (h .p) (h .before) in
+      let m : Mem = memOf (h .y .state) (withParcels lent (h .p)) in
+      let v : check ns r (it (h .y .row)) m ≡ Good = rw (h .row-is) (h .passes) in
+      let u : memOf (advanced (sizeOf (h .coding .form)) (h .y .state)) (withParcels lent (sets (h .p) (h .y .state .at) (formParcels (h .coding .form)))) ≡ next (h .y .row) (it (h .y .row)) m = rw (h .row-is) in
+      let few = subst (λ (b : ℕ). h .y .row < b) (sym (taken-all (a .rows-formed))) (h .left) in
+      rw (h .on, h .parcels)
+      (record {
+        rows-formed = a .rows-formed;
+        unstopped = refl;
+        going = going-next C N m₀ (b .going) few v u;
+        good = subst (λ (m : Mem). GoodFor ns r m) (sym u) (keep ns r (h .y .row) (it (h .y .row)) m (b .good) (row-fine rs ns (h .y .row)) v);
+      })
+
+  module _ (t : Taking) (lent : Lent) where
     -- ---- another turn
     some-open : moreOf rs t ≡ true → goingOn (t .verdict) (ltb (t .row) (rowsIn rs)) ≡ false → 0 < t .state .depth
     some-open e f = go (ltb 0 (t .state .depth)) refl
@@ -121,58 +207,56 @@ module _ (rs ns : List ℕ) (r : Rooms) (lent₀ : Lent) where
       ready (inr a) = record { good = a .good; few = λ e. absurd (refused-good (a .why) (sym (a .stopped) ∙ e)) }
 
       module _ (x : Taking) (lent′ : Lent) (s : Turnt (kernelOf rs ns) r t lent x lent′) where
-        abbrev top : OpenLoop
-        top = topOf (t .state) (lent .loops)
+        -- ---- at a row: those that are seen, and then, if one is left, that one
+        abbrev At : Type 0
+        At = RowTurn (kernelOf rs ns) r t (withLoops lent []) (topOf (t .state) (lent .loops)) (length (lent .loops)) (s .turn) (withLoops lent′ [])
 
-        abbrev slots : ℕ
-        slots = length (lent .loops)
+        module _ (o : At) (g : t .verdict ≡ Good) (in-rows : t .row < rowsIn rs) where
+          abbrev then : Lent
+          then = withParcels lent (o .parcels)
 
-        module _ (o : RowTurn (kernelOf rs ns) r t (withLoops lent []) (topOf (t .state) (lent .loops)) (length (lent .loops)) (s .turn) (withLoops lent′ [])) where
-          -- the turn and the loop table, by the step that the row made
-          as-turned : {z : Step} → o .step ≡ z → s .turn ≡ turnedOf t z top slots
-          as-turned e = o .answer ∙ ap (λ (b : Step). turnedOf t b top slots) e
+          same-top : topOf (t .state) (lent .loops) ≡ topOf (o .mid .state) (lent .loops)
+          same-top = ap (λ (d : ℕ). getD (lent .loops) (d - 1) zeroLoop) (sym (skimmed-depth g (o .skimmed)))
 
-          as-looped : {z : Step} → o .step ≡ z → lent′ .loops ≡ loopsBy z (t .state) (lent .loops)
-          as-looped {z} e = s .loops ∙ ap (λ (b : Turned). set (lent .loops) (b .slot) (b .rec)) (as-turned e) ∙ turn-loops t z top (lent .loops)
+          abbrev Steps : OpenLoop → Type 0
+          Steps top = StepTurn (kernelOf rs ns) r (o .mid) (withLoops then []) top (length (lent .loops)) (s .turn) (withLoops lent′ [])
 
-          module _ (a : Rowing t lent) (h : t .row < rowsIn rs) where
-            few : t .row < rowsTaken rs
-            few = subst (λ (b : ℕ). t .row < b) (sym (taken-all (a .rows-formed))) h
+          next-in : goingOn (o .mid .verdict) (ltb (o .mid .row) (rowsIn rs)) ≡ true → o .mid .row < rowsIn rs
+          next-in e = row-next (o .mid .verdict) (o .mid .row) (rowsIn rs) e .1
 
-            -- a row, taken in
-            row-good : check ns r (it (t .row)) M ≡ Good → Rowing x lent′
-            row-good v =
-                let d = o .stepped in
-                let step : o .step ≡ stepRow (it (t .row)) (t .state) = rw v at (d .answer) in
-                let on : x ≡ wentOn t (stepState (stepRow (it (t .row)) (t .state)) (t .state)) = s .taking ∙ ap (λ (b : Turned). b .taking) (as-turned step) ∙ turn-on t (it (t .row)) (t .state) top slots in
-                let u : memOf (x .state) lent′ ≡ next (t .row) (it (t .row)) M = mem-eq (ap (λ (b : Taking). b .state) on) (rw v at (d .parcels)) (rw v at (d .labels)) (rw v at (d .jumps)) (as-looped step) in
-                record {
-                  rows-formed = a .rows-formed;
-                  unstopped = ap (λ (b : Taking). b .verdict) on;
-                  going = subst (λ (b : ℕ). Going C N m₀ (rowsTaken rs) b (memOf (x .state) lent′)) (sym (ap (λ (b : Taking). b .row) on)) (going-next C N m₀ (a .going) few v u);
-                  good = subst (λ (m : Mem). GoodFor ns r m) (sym u) (keep ns r (t .row) (it (t .row)) M (a .good) (row-fine rs ns (t .row)) v);
-                }
+          row-on : Rowing t lent → Along x lent′
+          row-on a = go (o .rest)
+            where
+              b : Rowing (o .mid) then
+              b = seen-on t lent a (o .skimmed .rows-taken) (o .mid) (o .parcels) (o .skimmed .went)
 
-            -- a row, refused
-            row-refused : (why : Refusal) → check ns r (it (t .row)) M ≡ Refused why → Closing x lent′
-            row-refused why v =
-                let d = o .stepped in
-                let step : o .step ≡ Stop why = rw v at (d .answer) in
-                let on : x ≡ record { state = t .state; row = t .row; verdict = Refused why } = s .taking ∙ ap (λ (b : Turned). b .taking) (as-turned step) in
-                let u : memOf (x .state) lent′ ≡ M = mem-eq (ap (λ (b : Taking). b .state) on) (rw v at (d .parcels)) (rw v at (d .labels)) (rw v at (d .jumps)) (as-looped step) in
-                let c = going-stop C N m₀ (a .going) few v u in
-                record {
-                  why = why;
-                  stopped = ap (λ (b : Taking). b .verdict) on;
-                  verdict = final (a .rows-formed) (Refused why) (memOf (x .state) lent′) (c .outcome) (came-mem c);
-                  row = ap (λ (b : Taking). b .row) on ∙ c .end;
-                  rest = ap closed (came-mem c);
-                  good = subst (λ (m : Mem). GoodFor ns r m) (sym u) (a .good);
-                }
+              go : (Next (kernelOf rs ns) (o .mid) true × Steps (topOf (t .state) (lent .loops))) ⊎ (Next (kernelOf rs ns) (o .mid) false × (s .turn ≡ record { taking = o .mid; slot = length (lent .loops); rec = topOf (t .state) (lent .loops) }) × (withLoops lent′ [] ≡ withLoops then [])) → Along x lent′
+              go (inl (e, w)) = by-row (o .mid) then x lent′ (s .turn) (s .taking) (s .loops) (subst Steps same-top w) b (next-in e) (check ns r (it (o .mid .row)) (memOf (o .mid .state) then)) refl
+              go (inr (e, w, d)) =
+                  let q : lent′ .loops ≡ lent .loops = s .loops ∙ ap (λ (y : Turned). set (lent .loops) (y .slot) (y .rec)) w ∙ set-out (lent .loops) (length (lent .loops)) _ (omega arith) in
+                  let l : lent′ ≡ then = ap₂ withLoops d q in
+                  inl (rw (s .taking ∙ ap (λ (y : Turned). y .taking) w, l) b)
 
-            by-row : (v : Verdict) → check ns r (it (t .row)) M ≡ v → Along x lent′
-            by-row Good v = inl (row-good v)
-            by-row (Refused why) v = inr (row-refused why v)
+          row-left : left rs x < left rs t
+          row-left = go (o .rest)
+            where
+              h : o .mid .verdict ≡ Good
+              h = skimmed-good g (o .skimmed)
+
+              deep : o .mid .state .depth ≡ t .state .depth
+              deep = skimmed-depth g (o .skimmed)
+
+              past : t .row ≤ o .mid .row
+              past = skimmed-row g (o .skimmed)
+
+              go : (Next (kernelOf rs ns) (o .mid) true × Steps (topOf (t .state) (lent .loops))) ⊎ (Next (kernelOf rs ns) (o .mid) false × (s .turn ≡ record { taking = o .mid; slot = length (lent .loops); rec = topOf (t .state) (lent .loops) }) × (withLoops lent′ [] ≡ withLoops then [])) → left rs x < left rs t
+              go (inl (e, w)) =
+                  let l = row-less (o .mid) then x lent′ (s .turn) (s .taking) (s .loops) (subst Steps same-top w) (next-in e) h in
+                  let m : left rs (o .mid) ≤ left rs t = rw (h, g, deep) (omega (arith, past)) in
+                  omega (arith, l, m)
+              go (inr (e, w, d)) =
+                  let last = row-last (o .mid .row) (rowsIn rs) (rw h at e) in
+                  rw (s .taking ∙ ap (λ (y : Turned). y .taking) w, h, g, deep) (omega (arith, last, in-rows))
 
         -- a loop closed: the memory, and what is known of it
         record Popped : Type 0 where
@@ -193,7 +277,7 @@ module _ (rs ns : List ℕ) (r : Rooms) (lent₀ : Lent) where
         onwards a = go a (s .onward)
           where
             go : Along t lent → Onward (kernelOf rs ns) r t (withLoops lent []) (topOf (t .state) (lent .loops)) (length (lent .loops)) (s .turn) (withLoops lent′ []) → Along x lent′
-            go (inl a) (inl (e, o)) = by-row o a (row-next (t .verdict) (t .row) (rowsIn rs) e .1) (check ns r (it (t .row)) M) refl
+            go (inl a) (inl (e, o)) = row-on o (a .unstopped) (row-next (t .verdict) (t .row) (rowsIn rs) e .1) a
             go (inl a) (inr (e, o)) =
                 let some = some-open more e in
                 let d = pops o in
@@ -203,7 +287,7 @@ module _ (rs ns : List ℕ) (r : Rooms) (lent₀ : Lent) where
                 (record {
                   why = UnclosedLoop;
                   stopped = d .says ∙ ap (λ (v : Verdict). Refused (lateOf v)) (a .unstopped);
-                  verdict = ap (λ (b : Bool). when b UnclosedLoop) (sym (lt-ltb 0 (t .state .depth) some)) ∙ final (a .rows-formed) Good M (c .outcome) (came-mem c);
+                  verdict = ap (λ (b : Bool). when b UnclosedLoop) (sym (lt-ltb 0 (t .state .depth) some)) ∙ final (a .rows-formed) Good (memOf (t .state) lent) (c .outcome) (came-mem c);
                   row = d .stays ∙ c .end;
                   rest = ap closed (d .is) ∙ closed-one (t .state) lent some ∙ ap closed (came-mem c);
                   good = subst (λ (m : Mem). GoodFor ns r m) (sym (d .is)) (good-less ns r (t .state) lent some (a .good));
@@ -223,20 +307,11 @@ module _ (rs ns : List ℕ) (r : Rooms) (lent₀ : Lent) where
                 })
 
         -- ---- each turn leaves less to do
-        by-step : t .row < rowsIn rs → t .verdict ≡ Good → (v : Verdict) → x ≡ turnedOf t (stepBy v (stepRow (it (t .row)) (t .state))) top slots .taking → left rs x < left rs t
-        by-step h g Good e =
-            let on : x ≡ wentOn t (stepState (stepRow (it (t .row)) (t .state)) (t .state)) = e ∙ turn-on t (it (t .row)) (t .state) top slots in
-            let d = deeper-by-one (it (t .row)) (t .state) in
-            rw (on, g) (omega arith)
-        by-step h g (Refused why) e = rw (e, g) (omega arith)
-
         less : left rs x < left rs t
         less = go (s .onward)
           where
             go : Onward (kernelOf rs ns) r t (withLoops lent []) (topOf (t .state) (lent .loops)) (length (lent .loops)) (s .turn) (withLoops lent′ []) → left rs x < left rs t
-            go (inl (e, o)) =
-                let h = row-next (t .verdict) (t .row) (rowsIn rs) e in
-                by-step (h .1) (h .0) (check ns r (it (t .row)) M) (s .taking ∙ ap (λ (b : Turned). b .taking) (as-turned o (o .stepped .answer)))
+            go (inl (e, o)) = let h = row-next (t .verdict) (t .row) (rowsIn rs) e in row-left o (h .0) (h .1)
             go (inr (e, o)) =
                 let some = some-open more e in
                 rw (s .taking ∙ ap (λ (b : Turned). b .taking) (o .answer)) (omega arith)
@@ -260,7 +335,7 @@ module _ (rs ns : List ℕ) (r : Rooms) (lent₀ : Lent) where
           record {
             verdict =
                 a .unstopped ∙ ap (λ (b : Bool). when b UnclosedLoop) (sym (le-ltb 0 (t .state .depth) (let w : t .state .depth ≤ 0 = omega (arith, none-open) in w)))
-                ∙ final (a .rows-formed) Good M (c .outcome) (came-mem c);
+                ∙ final (a .rows-formed) Good (memOf (t .state) lent) (c .outcome) (came-mem c);
             row = c .end;
             mem = sym (closed-none (t .state) lent none-open) ∙ ap closed (came-mem c);
             good = a .good;

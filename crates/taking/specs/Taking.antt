@@ -3,9 +3,10 @@ use mathlib.Core.Path.{_≡_}
 use mathlib.Core.Bool.{Bool, true, false, cond}
 use mathlib.Core.Logic.{_⊎_}
 use mathlib.Core.List.{List, []}
-use Prim.Native.Nat.{ℕ, _+_, _-_, _≤_}
+use Prim.Native.Nat.{ℕ, zero, suc, _+_, _-_, _≤_, _<_}
 use lib.ListN.{length, set}
 use lib.Dec.{ltb}
+use lib.Seq.{sets}
 use Rattle.refusals.specs.declared.Refusal.{Refusal}
 use Rattle.refusals.specs.declared.Refusal.the-variants.{RowSlice, UnclosedLoop}
 use Rattle.refusals.specs.declared.Verdict.{Verdict}
@@ -13,13 +14,18 @@ use Rattle.refusals.specs.declared.Verdict.the-variants.{Good, Refused}
 use Rattle.rows.specs.Rows.{wellFormed, mostRows}
 use Rattle.places.specs.declared.OpenLoop.{OpenLoop}
 use Rattle.places.specs.declared.Rooms.{Rooms}
-use Rattle.places.specs.Items.{Kernel, kernel, rowAt, rowsIn}
+use Rattle.encode.specs.Encoding.{formParcels}
+use Rattle.coded.specs.declared.Coding.{Coding}
+use Rattle.coded.specs.declared.Coded.the-variants.{Instruction}
+use Rattle.checks.specs.Checks.{instructionChk}
+use Rattle.places.specs.Items.{Kernel, kernel, rowAt, rowsIn, sizeOf}
+use Rattle.runs.specs.declared.Run.{Run}
 use Rattle.refusals.specs.Order.{orElse}
 use Rattle.places.specs.Left.{Lent, zeroLoop, withLoops}
 use Rattle.machine.specs.declared.State.{State}
 use Rattle.machine.specs.declared.Step.{Step}
 use Rattle.machine.specs.declared.Step.the-variants.{On, Opened, Closed, Stop}
-use Rattle.machine.specs.Machine.{Mem, memOf, topOf, Fine, GoodFor, Stepped}
+use Rattle.machine.specs.Machine.{st, advanced, withParcels, Mem, memOf, topOf, Fine, GoodFor, Stepped}
 use Rattle.machine.specs.Fold.{zeroState, rowsVerdict, rowsEnd, rowsMem}
 use Rattle.machine.specs.Finish.{level, closeVerdict, closed}
 use Rattle.taking.specs.declared.Taking.{Taking}
@@ -60,11 +66,56 @@ lateOf (Refused r) = r
 abbrev pub closedOf : Taking → Refusal → Turned
 closedOf t why = record { taking = record { state = level (t .state .depth - 1) (t .state); row = t .row; verdict = Refused why }; slot = t .state .depth - 1; rec = zeroLoop }
 
--- at a row: its step; past the rows: a loop closed, nothing else written. `lent` and `left` are the buffers but for the loop table
-pub record RowTurn (k : Kernel) (r : Rooms) (t : Taking) (lent : Lent) (top : OpenLoop) (slots : ℕ) (y : Turned) (left : Lent) : Type 0 where
+abbrev pub Next : Kernel → Taking → Bool → Type 0
+Next k t b = goingOn (t .verdict) (ltb (t .row) (k .n)) ≡ b
+
+-- ---- the rows that are seen at a glance
+abbrev pub runOf : Taking → Run
+runOf t = record { row = t .row; at = t .state .at; count = t .state .count; last = t .state .last; short = t .state .short; shortat = t .state .shortat }
+
+abbrev pub afterRun : Taking → Run → Taking
+afterRun t x =
+    record {
+      state = st (x .at) (t .state .labels) (t .state .jumps) (t .state .depth) (x .count) (x .last) (x .short) (x .shortat) (t .state .ended);
+      row = x .row;
+      verdict = Good;
+    }
+
+-- a row more than so far: an instruction that passes its checks
+pub record Further (k : Kernel) (r : Rooms) (So-far : Taking → List ℕ → Type 0) (x : Taking) (q : List ℕ) : Type 0 where
+  pub y : Taking
+  pub p : List ℕ
+  pub before : So-far y p
+  pub coding : Coding
+  pub row-is : k .it (y .row) ≡ Instruction coding
+  pub passes : instructionChk r (y .state .at) (y .state .depth) coding ≡ Good
+  pub left : y .row < k .n
+  pub on : x ≡ wentOn y (advanced (sizeOf (coding .form)) (y .state))
+  pub parcels : q ≡ sets p (y .state .at) (formParcels (coding .form))
+
+-- n rows on, and the parcels then
+abbrev pub Went : Kernel → Rooms → Taking → List ℕ → ℕ → Taking → List ℕ → Type 0
+Went k r t p zero x q = (x ≡ t) × (q ≡ p)
+Went k r t p (suc n) x q = Further k r (Went k r t p n) x q
+
+pub record Skimmed (k : Kernel) (r : Rooms) (t : Taking) (p : List ℕ) (x : Taking) (q : List ℕ) : Type 0 where
+  pub rows-taken : ℕ
+  pub went : Went k r t p rows-taken x q
+
+-- ---- at a row the long way: its step. `lent` and `left` are the buffers but for the loop table
+pub record StepTurn (k : Kernel) (r : Rooms) (t : Taking) (lent : Lent) (top : OpenLoop) (slots : ℕ) (y : Turned) (left : Lent) : Type 0 where
   pub step : Step
   pub stepped : Stepped (k .names) r (k .it (t .row)) (t .row) (t .state) lent top step left
   pub answer : y ≡ turnedOf t step top slots
+
+-- at a row: those that are seen, then the next one's step, if there is one; past the rows: a loop closed, nothing else written
+pub record RowTurn (k : Kernel) (r : Rooms) (t : Taking) (lent : Lent) (top : OpenLoop) (slots : ℕ) (y : Turned) (left : Lent) : Type 0 where
+  pub mid : Taking
+  pub parcels : List ℕ
+  pub skimmed : Skimmed k r t (lent .parcels) mid parcels
+  pub rest :
+      (Next k mid true × StepTurn k r mid (withParcels lent parcels) top slots y left)
+      ⊎ (Next k mid false × (y ≡ record { taking = mid; slot = slots; rec = top }) × (left ≡ withParcels lent parcels))
 
 pub record LateTurn (t : Taking) (lent : Lent) (y : Turned) (left : Lent) : Type 0 where
   pub answer : y ≡ closedOf t (lateOf (t .verdict))
@@ -73,9 +124,6 @@ pub record LateTurn (t : Taking) (lent : Lent) (y : Turned) (left : Lent) : Type
 pub record Stepping (k : Kernel) (r : Rooms) (t : Taking) (lent : Lent) (top : OpenLoop) : Type 0 where
   pub fine : Fine (k .names) r (t .state) lent top
   pub few : t .verdict ≡ Good → k .n ≤ mostRows
-
-abbrev pub Next : Kernel → Taking → Bool → Type 0
-Next k t b = goingOn (t .verdict) (ltb (t .row) (k .n)) ≡ b
 
 abbrev pub Onward : Kernel → Rooms → Taking → Lent → OpenLoop → ℕ → Turned → Lent → Type 0
 Onward k r t lent top slots y left = (Next k t true × RowTurn k r t lent top slots y left) ⊎ (Next k t false × LateTurn t lent y left)

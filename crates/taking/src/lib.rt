@@ -1,15 +1,18 @@
 // The rows in turn over the lent buffers: a turn for each row, then one for each loop that is left open. The functions that hold
 // the lent loop records only call; what thinks takes a record by value.
 ghost use mathlib.Core.Path.{_≡_};
-ghost use mathlib.Core.List.{[]};
-ghost use Prim.Native.Nat.{_-_, _<_};
+ghost use mathlib.Core.List.{List, []};
+ghost use Prim.Native.Nat.{ℕ, _-_, _≤_, _<_};
+ghost use lib.ListN.{length};
 ghost use lib.Dec.{ltb};
+ghost use Rattle.refusals.specs.declared.Verdict.the-variants.{Good};
 ghost use Rattle.rows.specs.Rows.{mostRows};
+ghost use Rattle.runs.specs.Runs.{Skimming};
 ghost use Rattle.places.specs.Items.{kernelOf, rowsIn};
 ghost use Rattle.places.specs.Left.{lentOf};
 ghost use Rattle.checks.specs.Rooming.{RoomingIn};
 ghost use Rattle.machine.specs.Machine.{Fine};
-ghost use Rattle.taking.specs.Taking.{goingOn, startOf, moreOf, wentOn, lateOf, turnedOf, closedOf, RowTurn, Stepping, Onward, Ready, Turnt, Took};
+ghost use Rattle.taking.specs.Taking.{goingOn, startOf, moreOf, wentOn, lateOf, turnedOf, closedOf, runOf, afterRun, Skimmed, StepTurn, RowTurn, Stepping, Onward, Ready, Turnt, Took};
 use machine::START;
 use machine::State;
 use machine::Step;
@@ -19,6 +22,7 @@ use places::ZERO_LOOP;
 use refusals::Refusal;
 use refusals::Verdict;
 use rows::ROW_WIDTH;
+use runs::Run;
 
 // Where the rows stand: the state, the next row, and the first refusal if there is one.
 pub struct Taking {
@@ -160,8 +164,51 @@ fn past_rows(t: Taking) -> Turned
     }
 }
 
-// A turn at the next row.
-fn at_row(
+// Where the rows stand, as a run.
+fn run_of(t: Taking) -> Run
+    ensures { λ r. ⌜ r ≡ runOf t ⌝ }
+{
+    let state = t.state;
+    Run {
+        row: t.row,
+        at: state.at,
+        count: state.count,
+        last: state.last,
+        short: state.short,
+        shortat: state.shortat,
+    }
+}
+
+// Where they stand once a run has ended.
+fn after_run(t: Taking, run: Run) -> Taking
+    ensures { λ r. ⌜ r ≡ afterRun t run ⌝ }
+{
+    let mut state = t.state;
+    state.at = run.at;
+    state.count = run.count;
+    state.last = run.last;
+    state.short = run.short;
+    state.shortat = run.shortat;
+    Taking {
+        state,
+        row: run.row,
+        verdict: Verdict::Good,
+    }
+}
+
+// The rows that are seen at a glance; where a loop is open, up to a branch.
+fn skim(rows: &[u32], rooms: Rooms, parcels: &mut [u16], t: Taking) -> Taking
+    requires { ⌜ (t .verdict ≡ Good) × Skimming (now rows) (rooms .parcels) (runOf t) (length (now parcels)) ⌝ }
+    ensures { λ r. ⌜ ((names : List ℕ) → Skimmed (kernelOf (now (rows .entry)) names) rooms t (now (parcels .entry)) r (now (parcels .exit))) ⌝ }
+{
+    let state = t.state;
+    let free = state.depth == 0;
+    let run = runs::skim(rows, rooms.parcels, free, parcels, run_of(t));
+    after_run(t, run)
+}
+
+// The next row the long way.
+fn long_row(
     rows: &[u32],
     names: &[u8],
     rooms: Rooms,
@@ -173,13 +220,39 @@ fn at_row(
     lent: usize,
 ) -> Turned
     requires { ⌜ (Fine (now names) rooms (t .state) (lentOf (now parcels) (now labels) (now jumps) []) top) × (t .row < rowsIn (now rows)) × (t .row < mostRows) ⌝ }
-    ensures { λ r. ⌜ RowTurn (kernelOf (now (rows .entry)) (now (names .entry))) rooms t (lentOf (now (parcels .entry)) (now (labels .entry)) (now (jumps .entry)) []) top lent r (lentOf (now (parcels .exit)) (now (labels .exit)) (now (jumps .exit)) []) ⌝ }
+    ensures { λ r. ⌜ StepTurn (kernelOf (now (rows .entry)) (now (names .entry))) rooms t (lentOf (now (parcels .entry)) (now (labels .entry)) (now (jumps .entry)) []) top lent r (lentOf (now (parcels .exit)) (now (labels .exit)) (now (jumps .exit)) []) ⌝ }
 {
     let at = t.row;
     let state = t.state;
     let coded = coded::coded_at(rows, at, names.len());
     let step = state.step(rooms, coded, at as u32, names, parcels, labels, jumps, top);
     after(t, step, top, lent)
+}
+
+// A turn at the next row: those that are seen, and the row after them, if there is one, the long way.
+fn at_row(
+    rows: &[u32],
+    names: &[u8],
+    rooms: Rooms,
+    parcels: &mut [u16],
+    labels: &mut [u32],
+    jumps: &mut [u32],
+    t: Taking,
+    top: OpenLoop,
+    lent: usize,
+) -> Turned
+    requires { ⌜ (Fine (now names) rooms (t .state) (lentOf (now parcels) (now labels) (now jumps) []) top) × (t .verdict ≡ Good) × (t .row < rowsIn (now rows)) × (rowsIn (now rows) ≤ mostRows) ⌝ }
+    ensures { λ r. ⌜ RowTurn (kernelOf (now (rows .entry)) (now (names .entry))) rooms t (lentOf (now (parcels .entry)) (now (labels .entry)) (now (jumps .entry)) []) top lent r (lentOf (now (parcels .exit)) (now (labels .exit)) (now (jumps .exit)) []) ⌝ }
+{
+    let s = skim(rows, rooms, parcels, t);
+    if going(rows, s) {
+        return long_row(rows, names, rooms, parcels, labels, jumps, s, top, lent);
+    }
+    Turned {
+        taking: s,
+        slot: lent,
+        rec: top,
+    }
 }
 
 // A turn: the next row's, or past the rows.

@@ -9,7 +9,7 @@ use items::LoopMode;
 use items::Update;
 
 // A flag as the number in its bit.
-fn bit(b: bool) -> u64
+pub fn bit(b: bool) -> u64
     ensures { λ r. ⌜ (r ≡ bitOf b) × (r < 2) ⌝ }
 {
     if b { 1 } else { 0 }

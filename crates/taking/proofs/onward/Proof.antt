@@ -10,7 +10,7 @@ going-requires : tie.Need-going-requires
 going-requires c κs = search needs
 
 at-row-requires : tie.Need-at-row-requires
-at-row-requires c κs = let h = row-next _ _ _ (sym (c .before .before .before .before .going .ensures) ∙ c .before .before .before .if1 .taken) in (c .before .before .before .before .before .before .before .before .before .before .pre .fine, h .1, let f = c .before .before .before .before .before .before .before .before .before .before .pre .few (h .0) in omega (arith, h .1))
+at-row-requires c κs = let h = row-next _ _ _ (sym (c .before .before .before .before .going .ensures) ∙ c .before .before .before .if1 .taken) in (c .before .before .before .before .before .before .before .before .before .before .pre .fine, h .0, h .1, c .before .before .before .before .before .before .before .before .before .before .pre .few (h .0))
 
 same-length : tie.Need-same-length
 same-length c = search needs
