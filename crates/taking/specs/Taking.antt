@@ -1,4 +1,4 @@
--- An instrument of the build's proof: a turn for each row, then one for each loop that is left open.
+-- An instrument of the build's proof: a turn for each row that goes the long way, with those seen before it, then one for each loop that is left open.
 use mathlib.Core.Path.{_≡_}
 use mathlib.Core.Bool.{Bool, true, false, cond}
 use mathlib.Core.Logic.{_⊎_}

@@ -1,5 +1,5 @@
-// The rows in turn over the lent buffers: a turn for each row, then one for each loop that is left open. The functions that hold
-// the lent loop records only call; what thinks takes a record by value.
+// The rows in turn over the lent buffers: a turn for each row that goes the long way, with those seen at a glance before it, then one
+// for each loop that is left open. The functions that hold the lent loop records only call; what thinks takes a record by value.
 ghost use mathlib.Core.Path.{_≡_};
 ghost use mathlib.Core.List.{List, []};
 ghost use Prim.Native.Nat.{ℕ, _-_, _≤_, _<_};
