@@ -1,4 +1,6 @@
 // Reads lines of fields from standard input, builds the list that they say, and prints the answer.
+#![tactic(auto)]
+
 use libc::STDOUT_FILENO;
 
 fn main() {

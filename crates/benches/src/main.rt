@@ -1,5 +1,7 @@
 // The bench program on many inputs: standard input holds them, each ended by byte 0x1e and byte 10, and what is printed of
 // each is ended so too.
+#![tactic(auto)]
+
 fn main() {
     let mut rows = [0u32; 8704];
     let mut names = [0u8; 2048];

@@ -1,4 +1,6 @@
 // The numbers that may stand in the places of a row, and a row's refusals 2 and 4.
+#![tactic(auto)]
+
 ghost use Rattle.std.specs.Prelude.{◌≡◌, ◌∷◌, [], ◌+◌, ◌≤◌, length, take, drop};
 ghost use Rattle.bounds.specs.Tables.{lookup};
 ghost use Rattle.bounds.specs.Bounds.{never, form, is_instruction, is_compute, single, fields, compute, bounds_of, filled};
@@ -37,7 +39,7 @@ const FORM: u64 = 3;
 
 // What the places of a row say: each holds a number below its bound, one does not, or the first of the universal codes of
 // 0x60 or more.
-#[derive(Drop)]
+#[derive(Clone, Copy)]
 pub enum Places {
     Fine,
     Bad,

@@ -1,4 +1,6 @@
 // The public build: rows, names and lent buffers to an answer, and the name of a refusal.
+#![tactic(auto)]
+
 ghost use Rattle.std.specs.Prelude.{◌≡◌, [], ◌≤◌, length};
 ghost use Rattle.refusals.specs.Numbers.{answered};
 ghost use Rattle.places.specs.Items.{kernel_of};

@@ -1,4 +1,6 @@
 // What an item is refused for at its place, by numbers alone: the rooms, the next parcel, the open loops, the entries that stand.
+#![tactic(auto)]
+
 ghost use Rattle.std.specs.Prelude.{◌≡◌, ◌&&◌, ◌+◌, ◌*◌, ◌≤◌, length, ltb};
 ghost use Rattle.refusals.specs.declared.Refusal.TheVariants.{NoRoomForParcels};
 ghost use Rattle.refusals.specs.Order.{when};

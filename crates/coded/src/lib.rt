@@ -1,4 +1,6 @@
 // What a row comes to: an item with its instruction already encoded, or the refusal.
+#![tactic(auto)]
+
 ghost use Rattle.std.specs.Prelude.{◌≡◌, ◌+◌, ◌*◌, ◌≤◌, ◌<◌, length, take, drop};
 ghost use Rattle.rows.specs.Rows.{row_width, most_rows, read_of};
 ghost use Rattle.coded.specs.Coded.{coding_of, item_coded, coded_of};
@@ -9,13 +11,13 @@ use refusals::Refusal;
 use rows::{ROW_WIDTH, Read};
 
 // An instruction as its form, and its kind.
-#[derive(Drop)]
+#[derive(Clone, Copy)]
 pub struct Coding {
     pub form: Form,
     pub kind: Kind,
 }
 
-#[derive(Drop)]
+#[derive(Clone, Copy)]
 pub enum Coded {
     Instruction(Coding),
     Label {

@@ -1,5 +1,7 @@
 // What a row comes to at a glance; and at a glance the rows that hold a compute: alone (32), beside two accesses (33), beside
 // one (34). A glance tests a row's places together and makes its word at once.
+#![tactic(auto)]
+
 ghost use Rattle.std.specs.Prelude.{◌≡◌, ◌+◌, ◌%◌, ◌<◌, ◌^◌, length};
 ghost use Rattle.bounds.specs.Tables.{at};
 ghost use Rattle.combined.specs.Right.{Right};
@@ -12,7 +14,7 @@ use words::bit;
 
 // A word of one, two or three parcels of an instruction that is no branch, a branch's word, the leaf return, or nothing that is
 // seen at a glance.
-#[derive(Drop)]
+#[derive(Clone, Copy)]
 pub enum Glance {
     Short(u64),
     Pair(u64),

@@ -1,4 +1,6 @@
 // The 23-bit compute field: a single compute, and the multiplication beside a sum or a difference.
+#![tactic(auto)]
+
 ghost use Rattle.std.specs.Prelude.{◌≡◌, ◌<◌, ◌^◌};
 ghost use Rattle.fields.specs.Pack.{pack};
 ghost use Rattle.words.specs.Forms.{type2a};
@@ -8,7 +10,7 @@ use items::{AluOp, Compute, FloatMulAlu};
 use refusals::Refusal;
 
 // A compute, or why there is none.
-#[derive(Drop)]
+#[derive(Clone, Copy)]
 pub enum Made {
     Made(Compute),
     Refused(Refusal),

@@ -1,4 +1,6 @@
 // The parcel count and the instruction count of a list.
+#![tactic(auto)]
+
 ghost use Rattle.std.specs.Prelude.{◌≡◌, length};
 ghost use Rattle.refusals.specs.Numbers.{answer_in, answered};
 ghost use Rattle.encode.specs.Encoding.{form_parcels, form_verdict};
@@ -9,7 +11,7 @@ use encode::Form;
 use refusals::{Answer, Refusal};
 
 // What a list is counted in.
-#[derive(Drop)]
+#[derive(Clone, Copy)]
 pub enum Counting {
     Parcels,
     Instructions,

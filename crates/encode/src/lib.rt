@@ -1,4 +1,6 @@
 // One instruction's parcels: its form, or why it has none; and what a form says: its parcels, their count, its verdict.
+#![tactic(auto)]
+
 pub mod checks;
 pub mod moves;
 pub mod scalars;
@@ -17,7 +19,7 @@ use signs::{fold, within};
 pub const LEAF_RETURN_PARCELS: [u16; 6] = [0x4dfe, 0x0e3f, 0x083f, 0x343f, 0x1901, 0x0001];
 
 // What an instruction comes to: a word of one, two or three parcels, the leaf return, or its refusal.
-#[derive(Drop)]
+#[derive(Clone, Copy)]
 pub enum Form {
     Short(u64),
     Pair(u64),
@@ -27,7 +29,7 @@ pub enum Form {
 }
 
 // One instruction's parcels: the count and six places, of which the unused ones are zero.
-#[derive(Drop)]
+#[derive(Clone, Copy)]
 pub struct Encoded {
     pub verdict: Verdict,
     pub count: usize,

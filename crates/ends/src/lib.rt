@@ -1,4 +1,6 @@
 // Where a loop starts, where it ends, and what its end is refused for: looked up in the rows, with nothing kept.
+#![tactic(auto)]
+
 ghost use Rattle.std.specs.Prelude.{◌≡◌, ◌+◌, ◌≤◌, ◌<◌};
 ghost use Rattle.refusals.specs.declared.Refusal.TheVariants.{LoopTailNotFullWidth};
 ghost use Rattle.places.specs.Items.{row_at, row_count, kernel_of, about, place, address, nest, most_parcels};

@@ -1,4 +1,6 @@
 // Shows both engines at work on the kernel that standard input holds: what each knows and has written, row by row, and what both leave.
+#![tactic(auto)]
+
 mod alone;
 mod print;
 mod stages;

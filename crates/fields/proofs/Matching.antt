@@ -9,7 +9,7 @@ use mathlib.Core.List.{List, [], ◌∷◌}
 use lib.Dec.{eqb, leb}
 use lib.Pow.{shr-shr, mod-mod-pow, pow_pos}
 use lib.Pow as pow
-use borrow.Author.Tests.{eqb-true, eqb-false, leb-true, eq-eqb, not_true}
+use borrow.Author.Tests.{eqb-true, eqb-false, leb-true, eq-eqb, not-true}
 use Rattle.fields.specs.Pack.{Field, fixed, operand, pack, field, values, reads, Tiles}
 use Rattle.fields.specs.Matching.{matches, operands, found, shape, raised, part, differ, less, more, clashes, apart, Suits, filled_by}
 use Rattle.fields.proofs.Packed.{rebuild}
@@ -94,7 +94,7 @@ no-differ h l hi lo v hi' lo' v' word d e e' =
     let c = both (leb l h) (leb h hi && (leb h hi' && t)) b.1 in
     let f = both (leb h hi) (leb h hi' && t) c.1 in
     let g = both (leb h hi') t f.1 in
-    eqb-false (part v lo h l) (part v' lo' h l) (not_true _ g.1)
+    eqb-false (part v lo h l) (part v' lo' h l) (not-true _ g.1)
     (sym (inner hi lo h l word v (leb-true _ _ a.0) (leb-true _ _ c.0) (leb-true _ _ f.0) e)
     ∙ inner hi' lo' h l word v' (leb-true _ _ b.0) (leb-true _ _ c.0) (leb-true _ _ g.0) e')
 

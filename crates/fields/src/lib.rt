@@ -1,4 +1,6 @@
 // Words of 48 bits as fields, and as parcels.
+#![tactic(auto)]
+
 ghost use Rattle.std.specs.Prelude.{◌≡◌};
 ghost use Rattle.fields.specs.Parcels.{cut};
 

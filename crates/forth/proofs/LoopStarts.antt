@@ -8,7 +8,7 @@ use mathlib.Core.List.{List, [], ◌∷◌}
 use lib.Dec.{eqb, leb, ltb}
 use lib.IntN.{pos, negsuc}
 use lib.ListN.{drop}
-use borrow.Author.Tests.{ltb-true, leb-true, le-leb, not_true}
+use borrow.Author.Tests.{ltb-true, leb-true, le-leb, not-true}
 use Rattle.fields.specs.Pack.{Field, pack}
 use Rattle.fields.specs.Parcels.{cut}
 use Rattle.fields.specs.Matching.{filled_by}
@@ -81,7 +81,7 @@ counted-loop = entered (three refl) (tiles_12a 0 0 0)
     (λ c hc m hm o ho f.
     let g = both (not (eqb c 0)) (loop_fine o) f in
     let b : c % 65536 ≡ c = omega arith in
-    let z : eqb (c % 65536) 0 ≡ false = rw b (not_true _ g.0) in
+    let z : eqb (c % 65536) 0 ≡ false = rw b (not-true _ g.0) in
     loop-read (loop12a 0 0 0) 0 c m o (c ∷ m ∷ o ∷ []) g.1 (omega arith) (good-when _ _ (untrue _ (in_reach o g.1)), (good-when _ _ z, tt)) (rw (b, f1_bit m hm)))
 
 pub register-loop : Entry 3 (register_loop12a 0 0 0) (λ ns. ltb (at ns 0) 0x60 && loop_fine (at ns 2)) (λ ns. line 50 1 (at ns 0) (at ns 1))

@@ -9,7 +9,7 @@ use mathlib.Core.List.{List, [], ◌∷◌, ◌++◌, append_assoc}
 use lib.Dec.{eqb, ltb}
 use lib.ListN.{length, take, drop, replicate, length-append, length-take, length-replicate}
 use lib.Seq.{get_or-append-add}
-use borrow.Author.Tests.{ltb-true, le-leb, lt-leb, not_true}
+use borrow.Author.Tests.{ltb-true, le-leb, lt-leb, not-true}
 use Rattle.fields.specs.Pack.{pack}
 use Rattle.fields.specs.Parcels.{cut}
 use Rattle.fields.specs.Matching.{filled_by}
@@ -107,7 +107,7 @@ module _ (n : ℕ) (h : Held) (m : Besides n h) where
     dual_clear =
         let x = both h.fine _ fine in
         let y = both (not (eqb dmd 0 && writes_to h dmdreg)) _ x.1 in
-        (not_true _ y.0, not_true _ y.1)
+        (not-true _ y.0, not-true _ y.1)
 
     dm-clear : dm_clashes m.optional dm ≡ false
     unfolding dm_clashes data_access_of
@@ -165,7 +165,7 @@ module _ (n : ℕ) (h : Held) (m : Besides n h) where
         let x = both h.fine _ fine in
         let y = both (ltb code 0x60) _ x.1 in
         let z = both (not ((eqb u 1 || eqb d 1) && in_dag code (eqb g 1))) _ y.1 in
-        (ltb-true code 0x60 y.0, not_true _ z.0, not_true _ z.1)
+        (ltb-true code 0x60 y.0, not-true _ z.0, not-true _ z.1)
 
     dag_clear : same_dag access ≡ false
     unfolding same_dag memory_access_of

@@ -7,7 +7,7 @@ use mathlib.Core.Bool.{Bool, true, false, not, ◌&&◌}
 use mathlib.Core.List.{List, [], ◌∷◌}
 use lib.Dec.{eqb, leb, ltb}
 use lib.ListN.{drop}
-use borrow.Author.Tests.{ltb-true, leb-true, le-ltb, lt-leb, not_true}
+use borrow.Author.Tests.{ltb-true, leb-true, le-ltb, lt-leb, not-true}
 use Rattle.fields.specs.Pack.{Field, pack}
 use Rattle.fields.specs.Parcels.{cut}
 use Rattle.fields.specs.Matching.{filled_by}
@@ -89,7 +89,7 @@ code-small c s f = ltb-true c 0x60 (both (ltb c 0x60) (not (eqb s 1 && in_dag c 
 code_stored : (c : ℕ) → code_fine c 1 ≡ true → in_dag (c % 256) false ≡ false
 code_stored c f =
     let h = code-small c 1 f in
-    rw (byte c (omega arith)) (not_true _ (both (ltb c 0x60) (not (in_dag c false)) f).1)
+    rw (byte c (omega arith)) (not-true _ (both (ltb c 0x60) (not (in_dag c false)) f).1)
 
 -- 15a, which holds no near offset
 abbrev far_fine : ℕ → ℕ → ℕ → Bool

@@ -6,7 +6,7 @@ use mathlib.Core.Bool.{Bool, true, false, not, cond}
 use mathlib.Core.List.{List, [], ◌∷◌, ◌++◌}
 use lib.Dec.{eqb}
 use lib.ListN.{length}
-use borrow.Author.Tests.{ltb-true, eq-eqb, not_true}
+use borrow.Author.Tests.{ltb-true, eq-eqb, not-true}
 use Rattle.fields.specs.Pack.{pack, Tiles}
 use Rattle.fields.specs.Matching.{filled_by}
 use Rattle.refusals.specs.declared.Verdict.{Verdict}
@@ -106,7 +106,7 @@ module _ (op opcode p d x y u v : ℕ) (hp : p < 16) (hd : d < 16) (hx : x < 4) 
 
   multi-passes : (k : ℕ) (qs : List ℕ) → first (multi_refusals (multi_of (row k qs))) ≡ Good
   multi-passes k qs =
-      let e : eqb (p % 256) (d % 256) ≡ false = rw (byte p (omega arith), byte d (omega arith)) (not_true _ t) in
+      let e : eqb (p % 256) (d % 256) ≡ false = rw (byte p (omega arith), byte d (omega arith)) (not-true _ t) in
       good-first (multi_refusals (multi_of (row k qs)))
       (good-when _ _ (in_group x 0 x (omega arith) hx (omega arith)) & good-when _ _ (in_group (y + 4) 1 y (omega arith) hy (omega arith))
       & good-when _ _ (in_group (u + 8) 2 u (omega arith) hu (omega arith)) & good-when _ _ (in_group (v + 12) 3 v (omega arith) hv (omega arith))

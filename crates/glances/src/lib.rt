@@ -1,6 +1,8 @@
 // Rows read at a glance, kind by kind: the short way. Any seventeen numbers may be a row, and most rows that are built are plainly
 // fine: a line below tests such a row's places together and makes its word at once. Any other row is `Other` and goes the long way, which
 // alone decides what a row is refused for; what the short way gives is proved to be what the long way gives.
+#![tactic(auto)]
+
 ghost use Rattle.std.specs.Prelude.{◌≡◌, false, cond, length};
 ghost use Rattle.encode.specs.Registers.{in_dag};
 ghost use Rattle.rows.specs.Fields.{condition_of};

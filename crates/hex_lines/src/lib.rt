@@ -1,4 +1,6 @@
 // The read back program's reader: lines of four hex digits to parcels, a byte at a time.
+#![tactic(auto)]
+
 pub mod input;
 
 ghost use Rattle.std.specs.Prelude.{◌≡◌, List, [], ◌++◌, ℕ, ◌<◌, ◌≤◌};
@@ -6,7 +8,7 @@ ghost use Rattle.hex_lines.specs.Parcels.{hex_value, said};
 ghost use Rattle.hex_lines.specs.Steps.{Fine, line_start, failed, digit_of, begin_of, word_of, count_of, head_of, byte_of, mem, end_of, turn_of, ended, reading_of, Has, HasSome, Tells, Within};
 
 // Where a reader stands in its input.
-#[derive(Drop)]
+#[derive(Clone, Copy)]
 pub struct Reader {
     // The lines passed over, and the parcels read.
     pub passed: usize,
@@ -20,7 +22,7 @@ pub struct Reader {
 }
 
 // What an input says: how many parcels, or the first line that is unread.
-#[derive(Drop)]
+#[derive(Clone, Copy)]
 pub enum Reading {
     Read(usize),
     Unread(usize),

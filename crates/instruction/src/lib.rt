@@ -1,4 +1,6 @@
 // One instruction's parcels from its row.
+#![tactic(auto)]
+
 ghost use Rattle.std.specs.Prelude.{◌≡◌, length};
 ghost use Rattle.instruction.specs.Instruction.{held_form, is_mark, form_at, form_answer, Encodes};
 ghost use Rattle.instruction.specs.Short.{ShortWay};
@@ -8,7 +10,7 @@ use encode::Form;
 use refusals::{Answer, Judged, Refusal, Told};
 
 // One instruction's answer in numbers, and the six places, of which the unused ones are zero.
-#[derive(Drop)]
+#[derive(Clone, Copy)]
 pub struct Parcels {
     pub told: Told,
     pub places: [u16; 6],

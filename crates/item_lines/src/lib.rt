@@ -1,4 +1,6 @@
 // Rows with their names as the bench program reads them, in a lent buffer.
+#![tactic(auto)]
+
 ghost use Rattle.std.specs.Prelude.{◌≡◌, ◌+◌, ◌*◌, ◌<◌, ◌≤◌, length, take, drop};
 ghost use Rattle.text.specs.Text.{decimal, Puts};
 ghost use Rattle.row_lines.specs.RowText.{Prints};

@@ -1,11 +1,13 @@
 // The Rust's types by value: what a row stands for.
+#![tactic(auto)]
+
 ghost use Rattle.std.specs.Prelude.{◌≡◌};
 ghost use Rattle.items.specs.Kinds.{scalar_kind, kind_of, is_branch, has_slots, issued};
 
 use registers::{IndexRegister, ModifyRegister, Register, UniversalRegister};
 
 // The single-function operations of `lib.rs`: row kinds 0 to 12.
-#[derive(Drop)]
+#[derive(Clone, Copy)]
 pub enum Instruction {
     FloatAdd {
         dst: Register,
@@ -68,7 +70,7 @@ pub enum Instruction {
 }
 
 // The conditions of Type 8a.
-#[derive(Drop)]
+#[derive(Clone, Copy)]
 pub enum Condition {
     Eq,
     Ne,
@@ -80,28 +82,28 @@ pub enum Condition {
 }
 
 // The direction of a memory transfer, seen from the register.
-#[derive(Drop)]
+#[derive(Clone, Copy)]
 pub enum Direction {
     Load,
     Store,
 }
 
 // The address update of Type 3a: (I, M) post-modify or (M, I) pre-modify.
-#[derive(Drop)]
+#[derive(Clone, Copy)]
 pub enum Update {
     PostModify,
     PreModify,
 }
 
 // The ALU half of a multifunction compute.
-#[derive(Drop)]
+#[derive(Clone, Copy)]
 pub enum AluOp {
     Add,
     Sub,
 }
 
 // `Fm = Fxm * Fym, Fa = Fxa +/- Fya`: the float multiplier and ALU in one compute.
-#[derive(Drop)]
+#[derive(Clone, Copy)]
 pub struct FloatMulAlu {
     pub product: Register,
     pub mul_x: Register,
@@ -113,7 +115,7 @@ pub struct FloatMulAlu {
 }
 
 // A 23-bit compute field, and the numbers of its destinations: 16 where there is none.
-#[derive(Drop)]
+#[derive(Clone, Copy)]
 pub struct Compute {
     pub field: u32,
     pub first: u8,
@@ -121,14 +123,14 @@ pub struct Compute {
 }
 
 // The compute beside a move, if there is one.
-#[derive(Drop)]
+#[derive(Clone, Copy)]
 pub enum OptionalCompute {
     Nothing,
     Held(Compute),
 }
 
 // One post-modify half of a dual move.
-#[derive(Drop)]
+#[derive(Clone, Copy)]
 pub struct DataAccess {
     pub direction: Direction,
     pub register: Register,
@@ -137,7 +139,7 @@ pub struct DataAccess {
 }
 
 // The access of a memory move. I0 to I7 with M0 to M7 address DM, I8 to I15 with M8 to M15 address PM.
-#[derive(Drop)]
+#[derive(Clone, Copy)]
 pub struct MemoryAccess {
     pub direction: Direction,
     pub register: UniversalRegister,
@@ -147,21 +149,21 @@ pub struct MemoryAccess {
 }
 
 // The count of Type 12a: a number or a register.
-#[derive(Drop)]
+#[derive(Clone, Copy)]
 pub enum LoopCount {
     Immediate(u16),
     Register(UniversalRegister),
 }
 
 // The mode bit of Type 12a.
-#[derive(Drop)]
+#[derive(Clone, Copy)]
 pub enum LoopMode {
     E2Active,
     F1Active,
 }
 
 // The VISA forms: row kinds 16 to 39, and the scalar operations.
-#[derive(Drop)]
+#[derive(Clone, Copy)]
 pub enum VisaInstruction {
     Scalar(Instruction),
     Transfer {
@@ -256,7 +258,7 @@ pub enum VisaInstruction {
 }
 
 // What a row stands for. A name is a range of the lent names.
-#[derive(Drop)]
+#[derive(Clone, Copy)]
 pub enum Item {
     Instruction(VisaInstruction),
     Label {
@@ -276,7 +278,7 @@ pub enum Item {
 }
 
 // The kind of an instruction as document 01 numbers it, and whether it is a delayed `JumpRelative`.
-#[derive(Drop)]
+#[derive(Clone, Copy)]
 pub struct Kind {
     pub number: u8,
     pub delayed: bool,

@@ -2,7 +2,7 @@
 use Prim.Native.Nat.{ℕ, suc, ◌+◌, ◌≤◌, ◌<◌}
 use native.Mathlib.Omega.{arith}
 use mathlib.Core.Path.{◌≡◌, refl}
-use mathlib.Core.Bool.{Bool, true, false, ◌&&◌, and_false}
+use mathlib.Core.Bool.{Bool, true, false, ◌&&◌, and-false}
 use mathlib.Core.List.{List, [], ◌∷◌}
 use lib.Dec.{eqb}
 use lib.ListN.{length, take, drop}
@@ -22,4 +22,4 @@ starts_where_held k l (m ∷ ms) h = rw (drop-cons l k 0 (omega arith), starts_w
 pub too_few : (l ms : List ℕ) → length l < length ms → equal (take (length ms) l) ms ≡ false
 too_few l [] h = absurd (omega arith)
 too_few [] (m ∷ ms) h = refl
-too_few (x ∷ l) (m ∷ ms) h = rw (too_few l ms (omega arith), and_false)
+too_few (x ∷ l) (m ∷ ms) h = rw (too_few l ms (omega arith), and-false)

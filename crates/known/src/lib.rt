@@ -1,4 +1,6 @@
 // What stands at the front of parcels: the row of the form that they start, and how many parcels it takes.
+#![tactic(auto)]
+
 pub mod classes;
 pub mod compute;
 pub mod forms;
@@ -13,14 +15,14 @@ ghost use Rattle.known.specs.Window as front;
 use lines::{line_if, nothing};
 
 // So many parcels, and the row that they stand for; 0 parcels where they start no known form.
-#[derive(Drop)]
+#[derive(Clone, Copy)]
 pub struct Known {
     pub parcels: u64,
     pub row: [u32; 17],
 }
 
 // A compute in a row: its eight places, the data registers that it writes (16: none), and whether a row may hold it.
-#[derive(Drop)]
+#[derive(Clone, Copy)]
 pub struct Held {
     pub places: [u32; 8],
     pub first: u32,

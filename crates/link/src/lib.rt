@@ -1,4 +1,6 @@
 // What the static library exports: the calls in numbers.
+#![tactic(auto)]
+
 ghost use Rattle.std.specs.Prelude.{◌≡◌};
 ghost use Rattle.places.specs.Left.{lent_of, Builds};
 ghost use Rattle.instruction.specs.Instruction.{Encodes};
@@ -19,7 +21,7 @@ use widening::ToldWidened;
 
 // One instruction's answer: 0 and the count, or a refusal's number and details; and the six places.
 #[repr(C)]
-#[derive(Drop)]
+#[derive(Clone, Copy)]
 pub struct One {
     pub number: u32,
     pub count: u32,

@@ -1,4 +1,6 @@
 // The build's state by value, and what each row makes of it and of the lent buffers.
+#![tactic(auto)]
+
 mod records;
 
 ghost use Rattle.std.specs.Prelude.{◌≡◌, [], ◌+◌, ◌-◌, ◌*◌, ◌≤◌, ◌<◌, length};
@@ -17,7 +19,7 @@ use places::{JUMP_WIDTH, LABEL_WIDTH, LOOP_TAIL, OpenLoop, Rooms};
 use refusals::{Refusal, Verdict};
 
 // Where a build stands.
-#[derive(Drop)]
+#[derive(Clone, Copy)]
 pub struct State {
     // The next parcel.
     pub at: usize,
@@ -50,7 +52,7 @@ pub const START: State = State {
 };
 
 // What a row makes of a state: the next one, with a loop opened, of this record, or the innermost closed; or why the row is refused.
-#[derive(Drop)]
+#[derive(Clone, Copy)]
 pub enum Step {
     On(State),
     Opened(State, OpenLoop),

@@ -1,11 +1,13 @@
 // Parcels as bytes, low byte first.
+#![tactic(auto)]
+
 ghost use Rattle.std.specs.Prelude.{◌≡◌};
 ghost use Rattle.parcel_bytes.specs.Bytes.{told_bytes, Writes};
 
 use refusals::Refusal;
 
 // How many bytes were written, or why none.
-#[derive(Drop)]
+#[derive(Clone, Copy)]
 pub enum Written {
     Bytes(u64),
     Refused(Refusal),
@@ -13,7 +15,7 @@ pub enum Written {
 
 // The same in numbers: 0 and the bytes written; or a refusal's number with its detail and no bytes. The third detail, a row, is always 0.
 #[repr(C)]
-#[derive(Drop)]
+#[derive(Clone, Copy)]
 pub struct ToldBytes {
     pub bytes: u64,
     pub first: i64,

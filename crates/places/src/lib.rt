@@ -1,4 +1,6 @@
 // What a build answers and leaves, said of items and their places: definitions; and the code they share: the records of open loops, the rooms of the lent buffers.
+#![tactic(auto)]
+
 ghost use Rattle.std.specs.Prelude.{◌≡◌, cond, eqb, min};
 ghost use Rattle.places.specs.Items.{rooms_of, traits, about};
 
@@ -21,7 +23,7 @@ pub const LOOP_TAIL: usize = 11;
 
 // The record of an open loop: the place of its start, its first body entry, its count and its mode as numbers.
 #[repr(C)]
-#[derive(Drop)]
+#[derive(Clone, Copy)]
 pub struct OpenLoop {
     pub place: u32,
     pub first: u32,
@@ -38,7 +40,7 @@ pub const ZERO_LOOP: OpenLoop = OpenLoop {
 };
 
 // The rooms in parcels, label entries, jump entries and loop records.
-#[derive(Drop)]
+#[derive(Clone, Copy)]
 pub struct Rooms {
     pub parcels: usize,
     pub labels: usize,
@@ -69,7 +71,7 @@ impl Rooms {
 
 // What an item counts for: its parcels; 1 if it is an instruction entry, a label, a waiting jump, an instruction that does not
 // take three parcels, a loop start, a loop end; its name's start and length.
-#[derive(Drop)]
+#[derive(Clone, Copy)]
 pub struct Traits {
     pub size: usize,
     pub entry: usize,

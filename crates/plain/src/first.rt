@@ -9,7 +9,7 @@ use refusals::{Refusal, Verdict};
 use rows::ROW_WIDTH;
 
 // What the rows before a row take: parcels, which is its place; label entries; waiting jumps; loops that are open, and the most that were.
-#[derive(Drop)]
+#[derive(Clone, Copy)]
 pub struct Before {
     pub place: usize,
     pub labels: usize,
@@ -28,7 +28,7 @@ const START: Before = Before {
 };
 
 // What the first walk comes to: what the rows take that it passed, the verdict on all rows, and the row that this names.
-#[derive(Drop)]
+#[derive(Clone, Copy)]
 pub struct Placed {
     pub before: Before,
     pub verdict: Verdict,

@@ -1,5 +1,7 @@
 // The plain build, to be read and to hold the quick one against. A first walk over the rows places every item, finds every loop's end and
 // says what is refused; a second writes each item's parcels at its place, once.
+#![tactic(auto)]
+
 pub mod first;
 mod second;
 

@@ -6,7 +6,7 @@ use libc::{STDIN_FILENO, STDOUT_FILENO};
 use reader::Reader;
 
 // The reader of the input at hand, whether byte 10 of an end mark is still to come, and how many reads are left.
-#[derive(Drop)]
+#[derive(Clone, Copy)]
 struct Feed {
     reader: Reader,
     marked: bool,

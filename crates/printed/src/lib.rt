@@ -1,4 +1,6 @@
 // What the bench program prints, in a lent buffer.
+#![tactic(auto)]
+
 pub mod input;
 
 ghost use Rattle.std.specs.Prelude.{List, ℕ, ◌≤◌, length, take};

@@ -1,4 +1,6 @@
 // Reads parcels from standard input, a line each, reads them back into rows, and prints these with their places.
+#![tactic(auto)]
+
 mod printed;
 
 use libc::STDOUT_FILENO;

@@ -6,7 +6,7 @@ use crate::Reader;
 use libc::STDIN_FILENO;
 
 // The reader, and how many reads are left.
-#[derive(Drop)]
+#[derive(Clone, Copy)]
 struct Feed {
     reader: Reader,
     left: u64,

@@ -1,4 +1,6 @@
 // The bench program's reader: lines of decimal fields to rows and names, a byte at a time.
+#![tactic(auto)]
+
 pub mod input;
 
 ghost use Rattle.std.specs.Prelude.{◌≡◌, List, [], ◌++◌, ℕ, ◌<◌};
@@ -6,7 +8,7 @@ ghost use Rattle.reader.specs.Lines.{said};
 ghost use Rattle.reader.specs.Steps.{Fine, line_start, failed, digit_of, with, letter_of, name_at, name_of, tab_of, end_of, mem, turn_of, ended, reading_of, Has, HasSome, Tells, Within};
 
 // Where a reader stands: the line at hand is number `items` + 1.
-#[derive(Drop)]
+#[derive(Clone, Copy)]
 pub struct Reader {
     // The lines before.
     pub items: usize,
@@ -25,7 +27,7 @@ pub struct Reader {
 }
 
 // What an input says: how many numbers of rows and how many name bytes, or the first line that is unread.
-#[derive(Drop)]
+#[derive(Clone, Copy)]
 pub enum Reading {
     Read(usize, usize),
     Unread(usize),

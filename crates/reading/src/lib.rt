@@ -1,4 +1,6 @@
 // Parcels read back into rows, with the place of each.
+#![tactic(auto)]
+
 ghost use Rattle.std.specs.Prelude.{◌≡◌, ◌+◌, ◌*◌, ◌/◌, ◌≤◌, min, length};
 ghost use Rattle.rows.specs.Rows.{row_width};
 ghost use Rattle.reading.specs.Back.{told_back, ReadsBack};
@@ -8,7 +10,7 @@ use refusals::{Refusal, Verdict};
 use rows::ROW_WIDTH;
 
 // How many rows were read, or why none.
-#[derive(Drop)]
+#[derive(Clone, Copy)]
 pub enum Back {
     Rows(u64),
     Refused(Refusal),
@@ -16,7 +18,7 @@ pub enum Back {
 
 // The answer in numbers: 0 and the rows read; or a refusal's number with its details and no rows.
 #[repr(C)]
-#[derive(Drop)]
+#[derive(Clone, Copy)]
 pub struct ToldRows {
     pub rows: u64,
     pub first: i64,
@@ -56,7 +58,7 @@ impl Back {
 }
 
 // How many rows stand in the lent slices, and whether they are all.
-#[derive(Drop)]
+#[derive(Clone, Copy)]
 struct Walk {
     done: usize,
     verdict: Verdict,

@@ -1,9 +1,11 @@
 // Why rows are refused, with document 01's number and details for each case.
+#![tactic(auto)]
+
 ghost use Rattle.std.specs.Prelude.{◌≡◌, min, pos};
 ghost use Rattle.refusals.specs.Numbers.{alone, one, two, named, counted, most, told_of, in_row, answered, answer_of};
 
 // The refusals of documents 01 and 02, in their order, under the Rust's names where it has one; 3 is unused.
-#[derive(Drop)]
+#[derive(Clone, Copy)]
 pub enum Refusal {
     // The row slice is no whole number of rows, or over the limit.
     RowSlice,
@@ -54,21 +56,21 @@ pub enum Refusal {
 }
 
 // Whether something is in order, or why it is refused.
-#[derive(Drop)]
+#[derive(Clone, Copy)]
 pub enum Verdict {
     Good,
     Refused(Refusal),
 }
 
 // A verdict, and the row that it names if it is a refusal.
-#[derive(Drop)]
+#[derive(Clone, Copy)]
 pub struct Judged {
     pub verdict: Verdict,
     pub row: u32,
 }
 
 // What a call on a list answers: a count, or why the list is refused and the row that this names; 0 if it names none.
-#[derive(Drop)]
+#[derive(Clone, Copy)]
 pub enum Answer {
     Accepted(u32),
     Refused(Refusal, u32),
@@ -77,7 +79,7 @@ pub enum Answer {
 // An answer in numbers: 0 and a count; or a refusal's number with count 0, its two details, the row that it names, and its name's range in
 // the lent names (0, 0 where it has none).
 #[repr(C)]
-#[derive(Drop)]
+#[derive(Clone, Copy)]
 pub struct Told {
     pub number: u32,
     pub count: u32,

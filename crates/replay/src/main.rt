@@ -1,4 +1,6 @@
 // Reads rows as lines of numbers, and prints what one instruction comes to: the replay of stored answers.
+#![tactic(auto)]
+
 ghost use Rattle.std.specs.Prelude.{◌≡◌, true, ◌+◌, ◌<◌, ◌≤◌, length};
 
 use libc::{STDIN_FILENO, STDOUT_FILENO};
@@ -7,7 +9,7 @@ use refusals::Told;
 
 // The line that is being read: its number, the fields and the digits so far, and whether it is no row; and the next free place
 // of the output.
-#[derive(Drop)]
+#[derive(Clone, Copy)]
 struct Line {
     number: u64,
     fields: usize,
@@ -211,7 +213,7 @@ fn feed(s: Line, bytes: &[u8], row: &mut [u32; 17], out: &mut [u8]) -> Line {
 }
 
 // The line after a read, and how many reads more are allowed: none at the input's end and after a line that is no row.
-#[derive(Drop)]
+#[derive(Clone, Copy)]
 struct Went {
     line: Line,
     left: u64,

@@ -1,4 +1,6 @@
 // Rows and their places as text, in a lent buffer.
+#![tactic(auto)]
+
 ghost use Rattle.std.specs.Prelude.{◌≡◌, ◌+◌, ◌*◌, ◌<◌, ◌≤◌, length, take};
 ghost use Rattle.text.specs.Text.{each, Puts};
 ghost use Rattle.row_lines.specs.RowText.{written, field, row_line, row_lines, rows_text, Prints};

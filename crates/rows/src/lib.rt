@@ -1,4 +1,6 @@
 // Item rows: seventeen numbers, read as an item or a refusal.
+#![tactic(auto)]
+
 ghost use Rattle.std.specs.Prelude.{◌≡◌, ◌+◌, ◌*◌, ◌<◌, ◌≤◌, length};
 ghost use Rattle.rows.specs.Fields.{condition_of, direction_of, update_of, alu_op_of, mode_of, count_of, scalar_of, transfer_of, other_of, instruction_of};
 ghost use Rattle.rows.specs.Rows.{well_formed, multi_of, single_of, compute_of, beside_of, data_access_of, memory_access_of, compute_item, dual_item, memory_item, item_of, read_of};
@@ -12,14 +14,14 @@ use refusals::{Refusal, Verdict};
 use registers::{IndexRegister, ModifyRegister, Register, UniversalRegister};
 
 // What a row says.
-#[derive(Drop)]
+#[derive(Clone, Copy)]
 pub enum Read {
     Item(Item),
     Refused(Refusal),
 }
 
 // The compute beside a move, or its refusal.
-#[derive(Drop)]
+#[derive(Clone, Copy)]
 pub enum Beside {
     Compute(OptionalCompute),
     Refused(Refusal),

@@ -1,5 +1,7 @@
 // Runs of rows that are seen at a glance, one after the other: their parcels are written, and nothing else is touched. A run ends
 // before the first row that is not seen so, or is a branch where none may stand, or might not fit into the room.
+#![tactic(auto)]
+
 ghost use Rattle.std.specs.Prelude.{◌≡◌, ◌+◌, ◌≤◌, ◌<◌, length};
 ghost use Rattle.std.proofs.lemmas.List.Edits.{sets};
 ghost use Rattle.encode.specs.Encoding.{form_parcels};
@@ -13,7 +15,7 @@ use rows::ROW_WIDTH;
 
 // Where a run stands: the next row and the next parcel; the instruction entries, and the address of the last one; the latest entry
 // that does not take three parcels, by its number, 0 if there is none, and its address.
-#[derive(Drop)]
+#[derive(Clone, Copy)]
 pub struct Run {
     pub row: usize,
     pub at: usize,
@@ -34,7 +36,7 @@ pub const START: Run = Run {
 };
 
 // A run, and whether it may go on.
-#[derive(Drop)]
+#[derive(Clone, Copy)]
 pub struct Turn {
     pub run: Run,
     pub more: bool,

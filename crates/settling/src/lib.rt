@@ -1,4 +1,6 @@
 // The end of a build: each waiting jump gets the word to its label, in item order; a refusal leaves zeros.
+#![tactic(auto)]
+
 pub mod wipes;
 
 ghost use Rattle.std.specs.Prelude.{◌≡◌, ◌+◌, ◌≤◌, length};

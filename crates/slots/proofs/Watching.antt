@@ -1,6 +1,6 @@
 -- What the pass keeps in mind after i rows says how the slots of the jumps before i stand.
 use mathlib.Core.Path.{◌≡◌, refl, ap, ◌∙◌, subst}
-use mathlib.Core.Bool.{Bool, true, false, cond, and_false}
+use mathlib.Core.Bool.{Bool, true, false, cond, and-false}
 use mathlib.Core.List.{List, [], ◌∷◌, ◌++◌}
 use Prim.Native.Nat.{ℕ, ◌+◌, ◌≤◌, ◌<◌}
 use lib.ListN.{drop}
@@ -47,7 +47,7 @@ module _ (it : ℕ → Coded) (n : ℕ) where
   slot-none j e = rw e
 
   slot-filled : (j : ℕ) → filled (rest (j + 1)) ≡ true → slot j ≡ Good
-  slot-filled j e = rw (e, and_false)
+  slot-filled j e = rw (e, and-false)
 
   slot-broken : (j : ℕ) → opens (it j) ≡ true → filled (rest (j + 1)) ≡ false → slot j ≡ Refused (BrokenSlot j)
   slot-broken j o e = rw (o, e)

@@ -1,4 +1,6 @@
 // The slot check: what stands after each delayed jump, labels left out.
+#![tactic(auto)]
+
 ghost use Rattle.std.specs.Prelude.{◌≡◌};
 ghost use Rattle.refusals.specs.Numbers.{answered};
 ghost use Rattle.slots.specs.Slots.{opens, fills, Checks};
@@ -9,7 +11,7 @@ use refusals::{Answer, Refusal};
 
 // What the items so far leave open: nothing, both slots or the second slot of the jump in a row, or the first jump whose
 // slots are broken.
-#[derive(Drop)]
+#[derive(Clone, Copy)]
 enum Watch {
     Free,
     Both(u32),

@@ -1,4 +1,6 @@
 // Rows stored in a lent slice, from its front on.
+#![tactic(auto)]
+
 ghost use Rattle.std.specs.Prelude.{◌≡◌, ◌+◌, ◌≤◌, length};
 ghost use Rattle.std.proofs.Math.Seq.{paste};
 ghost use Rattle.rows.specs.Rows.{row_width};

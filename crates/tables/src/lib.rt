@@ -1,4 +1,6 @@
 // The lent tables: label entries found by name, runs of numbers and a form's parcels stored, loop records, and all of them wiped.
+#![tactic(auto)]
+
 pub mod loops;
 pub mod names;
 
@@ -10,7 +12,7 @@ ghost use Rattle.tables.specs.Tables.{zeroed};
 use encode::Form;
 
 // The address of a label, if there is one.
-#[derive(Drop)]
+#[derive(Clone, Copy)]
 pub enum Sought {
     At(u32),
     Nowhere,

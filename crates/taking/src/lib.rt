@@ -1,5 +1,7 @@
 // The rows in turn over the lent buffers: a turn for each row that goes the long way, with those seen at a glance before it, then one
 // for each loop that is left open. The functions that hold the lent loop records only call; what thinks takes a record by value.
+#![tactic(auto)]
+
 ghost use Rattle.std.specs.Prelude.{◌≡◌, List, [], ℕ, ◌-◌, ◌≤◌, ◌<◌, length, ltb};
 ghost use Rattle.refusals.specs.declared.Verdict.TheVariants.{Good};
 ghost use Rattle.rows.specs.Rows.{most_rows};
@@ -17,7 +19,7 @@ use rows::ROW_WIDTH;
 use runs::Run;
 
 // Where the rows stand: the state, the next row, and the first refusal if there is one.
-#[derive(Drop)]
+#[derive(Clone, Copy)]
 pub struct Taking {
     pub state: State,
     pub row: usize,
@@ -25,7 +27,7 @@ pub struct Taking {
 }
 
 // What a turn makes of it, and the loop record it leaves in a slot of the lent table; a slot past the table is none.
-#[derive(Drop)]
+#[derive(Clone, Copy)]
 pub struct Turned {
     pub taking: Taking,
     pub slot: usize,

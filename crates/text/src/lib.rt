@@ -1,4 +1,6 @@
 // Answers as text, in a lent buffer.
+#![tactic(auto)]
+
 ghost use Rattle.std.specs.Prelude.{◌≡◌, [], ◌∷◌, ◌++◌, min, ◌+◌, ◌*◌, ◌%◌, ◌<◌, ◌≤◌, length, take, nat_abs};
 ghost use Rattle.io.specs.Digits.{hex_digit_ascii, last_digits};
 ghost use Rattle.text.specs.Text.{decimal, signed, detail, parcel_line, each, ok_text, refused_text, answer_text, unread_text, Puts, Shows};

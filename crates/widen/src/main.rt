@@ -1,4 +1,6 @@
 // Reads a list as the bench program does, widens it, and prints it in the same form; what was changed goes to standard error.
+#![tactic(auto)]
+
 mod texts;
 
 use libc::{STDERR_FILENO, STDOUT_FILENO};

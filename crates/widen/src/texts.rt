@@ -12,7 +12,7 @@ use refusals::Told;
 use widening::ToldWidened;
 
 // How long each text is.
-#[derive(Drop)]
+#[derive(Clone, Copy)]
 pub struct Lengths {
     pub list: usize,
     pub notes: usize,

@@ -6,7 +6,7 @@ use mathlib.Core.Logic.{◌↔◌, ⊎_elim}
 use mathlib.Core.Bool.{Bool, true, false, ◌&&◌}
 use mathlib.Core.List.{List}
 use lib.Dec.{ltb}
-use borrow.Author.Tests.{lt-ltb, le-leb, eq-eqb, ltb-true, leb-true, eqb-true, not_true}
+use borrow.Author.Tests.{lt-ltb, le-leb, eq-eqb, ltb-true, leb-true, eqb-true, not-true}
 use Rattle.refusals.specs.declared.Verdict.{Verdict}
 use Rattle.refusals.specs.declared.Verdict.TheVariants.{Good, Refused}
 use Rattle.refusals.specs.Order.{if_good}
@@ -50,7 +50,7 @@ module _ (k : Kernel) where
   pairs-exactly = (
     (λ e.
         let p = and_both _ _ e in
-        record { matched = end-matched (found_none (stray it) n (not_true _ p.0)); closed = eqb-true _ _ p.1 }),
+        record { matched = end-matched (found_none (stray it) n (not-true _ p.0)); closed = eqb-true _ _ p.1 }),
     (λ p. rw (newest-none (stray it) n (λ e h. not_so _ (matched-end p.matched e h)), eq-eqb (nest it n) 0 p.closed) refl),
   )
 

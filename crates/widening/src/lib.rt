@@ -1,4 +1,6 @@
 // A list's rows copied, with the short instructions of loop tails changed to their full-width twins.
+#![tactic(auto)]
+
 ghost use Rattle.std.specs.Prelude.{◌≡◌, cond, ◌+◌, ◌*◌, ◌<◌, ◌≤◌, length, get_or, set};
 ghost use Rattle.rows.specs.Rows.{row_width, most_rows};
 ghost use Rattle.places.specs.Items.{row_count};
@@ -15,7 +17,7 @@ mod twins;
 const CHANGE_WIDTH: usize = 2;
 
 // How many rows were changed, and whether loops pair; or why nothing was written, and the row that this names.
-#[derive(Drop)]
+#[derive(Clone, Copy)]
 pub enum Widened {
     Copied { changes: u32, paired: bool },
     Refused(Refusal, u32),
@@ -23,7 +25,7 @@ pub enum Widened {
 
 // The answer in numbers: 0, the rows changed, and 1 if loops pair; or a refusal's number and details.
 #[repr(C)]
-#[derive(Drop)]
+#[derive(Clone, Copy)]
 pub struct ToldWidened {
     pub number: u32,
     pub changes: u32,

@@ -8,7 +8,7 @@ use places::LOOP_TAIL;
 use rows::ROW_WIDTH;
 
 // What a row counts for: 1 if it is an instruction entry, a loop start, a loop end.
-#[derive(Drop)]
+#[derive(Clone, Copy)]
 pub struct Counted {
     pub entry: usize,
     pub opens: usize,

@@ -1,4 +1,6 @@
 // The word of each form, from its numbers.
+#![tactic(auto)]
+
 ghost use Rattle.std.specs.Prelude.{◌≡◌, ◌<◌, ◌^◌};
 ghost use Rattle.fields.specs.Pack.{pack};
 ghost use Rattle.words.specs.Forms.{type2a, whole, bit_of, condition_code, is_store, is_post, is_f1, long17a, move5a, modify19a, offset15a, jump8a, call25a, store16a, mode18a, dual1a, memory3a, loop12a, register_loop12a, transfer5b, modify3b, offset15b, modify3c};

@@ -1,5 +1,7 @@
 // A writer of parcels: it holds the lent parcels and the next free place, appends, and patches earlier places. Each function
 // that takes, makes or has one is thin, over the slice functions at the top; `emit` and `mend` keep it to themselves.
+#![tactic(auto)]
+
 ghost use Rattle.std.specs.Prelude.{◌≡◌, ◌+◌, ◌≤◌, length, take};
 ghost use Rattle.std.proofs.lemmas.List.Edits.{sets};
 ghost use Rattle.writer.specs.Writing.{appended};
