@@ -35,6 +35,7 @@ pub fn compute_word(unit: u8, opcode: u8, rn: u8, rx: u8, ry: u8) -> u64
 }
 
 // `Compute::single`: the compute of a single's fields, with its destination: 16 where there is none.
+#[tactic(auto, unfolding(crate::specs::Compute::made_single))]
 pub fn single(unit: u8, opcode: u8, rn: u8, rx: u8, ry: u8, destination: u8) -> Made
     ensures { result ≡ made_single (single unit opcode rn rx ry) destination }
 {
@@ -78,6 +79,7 @@ pub fn multi_field(
 }
 
 // `Compute::float_mul_alu`: the multifunction compute, where its inputs stand in their groups and its destinations differ.
+#[tactic(auto, unfolding(crate::specs::Compute::made_multi))]
 pub fn float_mul_alu(f: FloatMulAlu) -> Made
     ensures { result ≡ made_multi f }
 {
