@@ -39,6 +39,7 @@ pub fn byte(v: u32) -> u8
 }
 
 // The most that the third field of a single compute holds; 16 where the kind is none.
+#[tactic(auto, unfolding(crate::specs::Single::third_of))]
 pub fn third(kind: u32) -> u32
     ensures { result ≡ third_of kind }
 {
@@ -60,6 +61,7 @@ pub fn third(kind: u32) -> u32
 }
 
 // The word of a single compute.
+#[tactic(auto, unfolding(rows::specs::Fields::instruction_of, encode::specs::Layouts::layout_of, rows::specs::Fields::others, rows::specs::Fields::scalars, crate::specs::Single::single_word))]
 pub fn single_word(kind: u32, a: u32, b: u32, c: u32) -> u64
     ensures { result ≡ single_word kind a b c }
 {
@@ -84,6 +86,7 @@ pub fn single_word(kind: u32, a: u32, b: u32, c: u32) -> u64
 }
 
 // The word of a single compute if its eight places are plainly fine, else 0.
+#[tactic(auto, unfolding(crate::specs::Tests::single_of))]
 fn fine_single(kind: u32, a: u32, b: u32, c: u32, d: u32, e: u32, f: u32) -> u64
     ensures { result ≡ single_of kind a b c d e f }
 {
@@ -95,6 +98,7 @@ fn fine_single(kind: u32, a: u32, b: u32, c: u32, d: u32, e: u32, f: u32) -> u64
 }
 
 // The word of a multifunction if its eight places are plainly fine, else 0.
+#[tactic(auto, unfolding(crate::specs::Tests::multi_of))]
 fn fine_multi(p: u32, mx: u32, my: u32, op: u32, d: u32, ax: u32, ay: u32) -> u64
     ensures { result ≡ multi_of p mx my op d ax ay }
 {
@@ -116,6 +120,7 @@ fn fine_multi(p: u32, mx: u32, my: u32, op: u32, d: u32, ax: u32, ay: u32) -> u6
 }
 
 // The word of a row's compute if its eight places are plainly fine, else 0.
+#[tactic(auto, unfolding(crate::specs::Tests::word_of))]
 fn compute(row: &[u32]) -> u64
     requires { length row.now ≡ 17 }
     ensures { result ≡ word_of row.now }
@@ -128,6 +133,7 @@ fn compute(row: &[u32]) -> u64
 }
 
 // Whether a row's eight places say that there is no compute.
+#[tactic(auto, unfolding(crate::specs::Tests::none_of))]
 fn none(row: &[u32]) -> bool
     requires { length row.now ≡ 17 }
     ensures { result ≡ none_of row.now }
@@ -147,6 +153,7 @@ fn beside(row: &[u32], word: u64) -> bool
 }
 
 // The destinations of a compute: 0x60 where there is none.
+#[tactic(auto, unfolding(crate::specs::Tests::first_of))]
 fn first(form: u32, a: u32, b: u32) -> u32
     ensures { result ≡ first_of form a b }
 {
@@ -159,6 +166,7 @@ fn first(form: u32, a: u32, b: u32) -> u32
     if a == 27 { 0x60 } else { b }
 }
 
+#[tactic(auto, unfolding(crate::specs::Tests::second_of))]
 fn second(form: u32, d: u32) -> u32
     ensures { result ≡ second_of form d }
 {
@@ -166,6 +174,7 @@ fn second(form: u32, d: u32) -> u32
 }
 
 // Whether an access loads a register that a row's compute writes.
+#[tactic(auto, unfolding(crate::specs::Tests::clash_of))]
 fn clashes(row: &[u32], direction: u32, register: u32) -> bool
     requires { length row.now ≡ 17 }
     ensures { result ≡ clash_of row.now direction register }
@@ -193,6 +202,7 @@ pub fn alone(row: &[u32]) -> Glance
 }
 
 // Whether the two accesses of a dual move are plainly fine, but for what the compute writes.
+#[tactic(auto, unfolding(crate::specs::Tests::dual_fits))]
 fn dual_fits(a: u32, b: u32, c: u32, d: u32, e: u32, f: u32, g: u32, h: u32) -> bool
     ensures { result ≡ dual_fits a b c d e f g h }
 {
@@ -242,6 +252,7 @@ pub fn dual(row: &[u32]) -> Glance
 }
 
 // Whether the access of a memory move is plainly fine, but for its register.
+#[tactic(auto, unfolding(crate::specs::Tests::memory_fits))]
 fn memory_fits(a: u32, b: u32, c: u32, d: u32, e: u32, f: u32, g: u32, h: u32) -> bool
     ensures { result ≡ memory_fits a b c d e f g h }
 {
@@ -250,6 +261,7 @@ fn memory_fits(a: u32, b: u32, c: u32, d: u32, e: u32, f: u32, g: u32, h: u32) -
 }
 
 // Whether a post-modify access or a store takes a register of the DAG that addresses it.
+#[tactic(auto, unfolding(crate::specs::Tests::own_dag))]
 fn own_dag(direction: u32, code: u32, index: u32, update: u32) -> bool
     ensures { result ≡ own_dag direction code index update }
 {

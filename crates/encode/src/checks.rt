@@ -5,6 +5,7 @@ ghost use Rattle.encode.specs.Registers.{in_dag, mixed, writes, dm_clashes, pm_c
 use items::{DataAccess, MemoryAccess, OptionalCompute};
 
 // Whether a code is an I, M, L or B register of DAG2 (pm), or of DAG1.
+#[tactic(auto, unfolding(crate::specs::Registers::in_dag))]
 pub fn in_dag(code: u8, pm: bool) -> bool
     ensures { result ≡ in_dag code pm }
 {
@@ -36,6 +37,7 @@ pub fn store_clashes(store: bool, code: u8) -> bool
 }
 
 // Whether the compute writes the register.
+#[tactic(auto, unfolding(crate::specs::Registers::writes))]
 fn does_write(k: OptionalCompute, number: u8) -> bool
     ensures { result ≡ writes k number }
 {
@@ -51,6 +53,7 @@ fn does_write(k: OptionalCompute, number: u8) -> bool
 }
 
 // Whether the DM load of a dual move writes what the compute writes.
+#[tactic(auto, unfolding(crate::specs::Registers::dm_clashes))]
 pub fn dm_clashes(k: OptionalCompute, dm: DataAccess) -> bool
     ensures { result ≡ dm_clashes k dm }
 {
@@ -62,6 +65,7 @@ pub fn dm_clashes(k: OptionalCompute, dm: DataAccess) -> bool
 }
 
 // Whether the PM load of a dual move writes what the compute or the DM load writes.
+#[tactic(auto, unfolding(crate::specs::Registers::pm_clashes))]
 pub fn pm_clashes(k: OptionalCompute, dm: DataAccess, pm: DataAccess) -> bool
     ensures { result ≡ pm_clashes k dm pm }
 {
@@ -80,6 +84,7 @@ pub fn pm_clashes(k: OptionalCompute, dm: DataAccess, pm: DataAccess) -> bool
 }
 
 // Whether a post-modify access or a store takes a register of the DAG that addresses it.
+#[tactic(auto, unfolding(crate::specs::Registers::same_dag))]
 pub fn same_dag(access: MemoryAccess) -> bool
     ensures { result ≡ same_dag access }
 {
@@ -95,6 +100,7 @@ pub fn same_dag(access: MemoryAccess) -> bool
 }
 
 // Whether the load of a memory move writes a data register that the compute writes.
+#[tactic(auto, unfolding(crate::specs::Registers::memory_clashes))]
 pub fn memory_clashes(k: OptionalCompute, access: MemoryAccess) -> bool
     ensures { result ≡ memory_clashes k access }
 {

@@ -37,6 +37,7 @@ pub struct Encoded {
 }
 
 // A jump over an offset from its own first parcel.
+#[tactic(auto, unfolding(crate::specs::Encoding::jump_form))]
 pub fn jump_form(condition: Condition, offset: i64, delayed: bool) -> Form
     ensures { result ≡ jump_form condition offset delayed }
 {
@@ -55,6 +56,7 @@ fn jump_relative(condition: Condition, offset: i32, delayed: bool) -> Form
 }
 
 // A call of an absolute address.
+#[tactic(auto, unfolding(crate::specs::Encoding::form_of, crate::specs::Layouts::layout_of))]
 fn call_form(target: u32) -> Form
     ensures { result ≡ form_of (CJump target) }
 {
@@ -65,6 +67,7 @@ fn call_form(target: u32) -> Form
 }
 
 // `loop_word`: a loop start over the offset of its last instruction.
+#[tactic(auto, unfolding(crate::specs::Encoding::loop_form))]
 pub fn loop_form(count: LoopCount, mode: LoopMode, offset: i64) -> Form
     ensures { result ≡ loop_form count mode offset }
 {
@@ -87,6 +90,7 @@ pub fn loop_form(count: LoopCount, mode: LoopMode, offset: i64) -> Form
 }
 
 // What an instruction comes to.
+#[tactic(auto, unfolding(crate::specs::Encoding::form_of, crate::specs::Encoding::jump_form, crate::specs::Layouts::layout_of))]
 pub fn visa_form(v: VisaInstruction) -> Form
     ensures { result ≡ form_of v }
 {

@@ -88,6 +88,7 @@ pub fn modify_index(index: IndexRegister, offset: i32) -> u64
 }
 
 // Two post-modify accesses beside a compute.
+#[tactic(auto, unfolding(crate::specs::Encoding::form_of, crate::specs::Layouts::layout_of))]
 pub fn dual_move(k: OptionalCompute, dm: DataAccess, pm: DataAccess) -> Form
     ensures { result ≡ form_of (DualMove k dm pm) }
 {
@@ -136,6 +137,7 @@ fn dual_word(dm: DataAccess, pm: DataAccess, field: u32) -> u64
 }
 
 // One access beside a compute.
+#[tactic(auto, unfolding(crate::specs::Encoding::form_of, crate::specs::Layouts::layout_of))]
 pub fn memory_move(k: OptionalCompute, access: MemoryAccess) -> Form
     ensures { result ≡ form_of (MemoryMove k access) }
 {
@@ -171,6 +173,7 @@ fn memory_word(access: MemoryAccess, field: u32) -> u64
 }
 
 // A store of a number through an index.
+#[tactic(auto, unfolding(crate::specs::Encoding::form_of, crate::specs::Layouts::layout_of))]
 pub fn store_immediate(index: IndexRegister, modifier: ModifyRegister, value: u32) -> Form
     ensures { result ≡ form_of (StoreImmediate index modifier value) }
 {

@@ -38,6 +38,7 @@ const ADDRESS: u32 = 0xff_ffff;
 const ANY: u32 = 0xffff_ffff;
 
 // Whether the three fields of a row hold at most so much, and the places after them nothing.
+#[tactic(auto, unfolding(crate::specs::Glances::fits_of))]
 fn fits(row: &[u32], a: u32, b: u32, c: u32) -> bool
     requires { length row.now ≡ 17 }
     ensures { result ≡ fits_of a b c row.now }
@@ -84,6 +85,7 @@ fn short(row: &[u32], a: u32, b: u32, c: u32, w: u64) -> Glance
 }
 
 // A single compute.
+#[tactic(auto, unfolding(crate::specs::Glances::single_in))]
 fn single(row: &[u32]) -> Glance
     requires { length row.now ≡ 17 }
     ensures { result ≡ single_in row.now }
@@ -104,6 +106,7 @@ fn stored(code: u8, glance: Glance) -> Glance
 }
 
 // A DM access at an offset, near or far.
+#[tactic(auto, unfolding(crate::specs::Glances::access_in))]
 fn access(code: u8, index: u8, offset: i32, store: bool) -> Glance
     ensures { result ≡ access_in code index offset store }
 {
@@ -115,6 +118,7 @@ fn access(code: u8, index: u8, offset: i32, store: bool) -> Glance
 }
 
 // A jump over an offset that it reaches.
+#[tactic(auto, unfolding(crate::specs::Glances::jump_seen))]
 fn jump(condition: u32, offset: i32, delayed: bool) -> Glance
     ensures { result ≡ jump_seen (condition_of condition) offset delayed }
 {
@@ -127,6 +131,7 @@ fn jump(condition: u32, offset: i32, delayed: bool) -> Glance
 }
 
 // A number stored through an index and a modifier of one DAG.
+#[tactic(auto, unfolding(crate::specs::Glances::immediate_in))]
 fn immediate(index: u8, modifier: u8, value: u32) -> Glance
     ensures { result ≡ immediate_in index modifier value }
 {
@@ -137,6 +142,7 @@ fn immediate(index: u8, modifier: u8, value: u32) -> Glance
 }
 
 // What a row shows at a glance.
+#[tactic(auto, unfolding(crate::specs::Glances::access_in, bounds::specs::Bounds::fields, encode::specs::Encoding::form_of, crate::specs::Glances::immediate_in, rows::specs::Fields::instruction_of, crate::specs::Glances::jump_seen, encode::specs::Layouts::layout_of, rows::specs::Fields::others, rows::specs::Fields::scalars, combined::specs::Single::single_word, combined::specs::Single::third_of, rows::specs::Fields::transfers))]
 pub fn seen(row: &[u32]) -> Glance
     requires { length row.now ≡ 17 }
     ensures { Right row.now result }

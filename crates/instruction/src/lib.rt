@@ -50,6 +50,7 @@ fn is_mark(kind: u32) -> bool
 }
 
 // The form of the instruction that a row holds; a slice that is no row, and a row that holds no instruction, are refused.
+#[tactic(auto, unfolding(crate::specs::Instruction::form_at))]
 fn form_at(row: &[u32]) -> Form
     ensures { result ≡ form_at row.now }
 {

@@ -9,6 +9,7 @@ use crate::moves::row_if;
 use crate::{Known, forms};
 
 // 011: 5a and 5b.
+#[tactic(auto, unfolding(crate::specs::Table::table))]
 pub fn moved(w: u64) -> Known
     requires { field 47 45 w ≡ 3 }
     ensures { result ≡ known_in w }
@@ -23,6 +24,7 @@ pub fn moved(w: u64) -> Known
 }
 
 // 100: 16a, 15b and 3c.
+#[tactic(auto, unfolding(crate::specs::Table::table))]
 pub fn stored(w: u64) -> Known
     requires { field 47 45 w ≡ 4 }
     ensures { result ≡ known_in w }
@@ -49,6 +51,7 @@ pub fn stored(w: u64) -> Known
 }
 
 // 101: 15a.
+#[tactic(auto, unfolding(crate::specs::Table::table))]
 pub fn offset(w: u64) -> Known
     requires { field 47 45 w ≡ 5 }
     ensures { result ≡ known_in w }
@@ -65,6 +68,7 @@ pub fn offset(w: u64) -> Known
 }
 
 // 000000: 21a, 21c and 2a.
+#[tactic(auto, unfolding(crate::specs::Table::table))]
 fn first_opcodes(w: u64) -> Known
     requires { field 47 42 w ≡ 0 }
     ensures { result ≡ known_in w }
@@ -84,6 +88,7 @@ fn first_opcodes(w: u64) -> Known
 }
 
 // 000001: 8a.
+#[tactic(auto, unfolding(crate::specs::Table::table))]
 fn jump(w: u64) -> Known
     requires { field 47 42 w ≡ 1 }
     ensures { result ≡ known_in w }
@@ -98,6 +103,7 @@ fn jump(w: u64) -> Known
 }
 
 // 000011: 17a, and the loop starts, 12a.
+#[tactic(auto, unfolding(crate::specs::Table::table))]
 fn loaded(w: u64) -> Known
     requires { field 47 42 w ≡ 3 }
     ensures { result ≡ known_in w }
@@ -119,6 +125,7 @@ fn loaded(w: u64) -> Known
 }
 
 // 000100: a data register loaded or stored.
+#[tactic(auto, unfolding(crate::specs::Table::table))]
 fn addressed(w: u64) -> Known
     requires { field 47 42 w ≡ 4 }
     ensures { result ≡ known_in w }
@@ -135,6 +142,7 @@ fn addressed(w: u64) -> Known
 }
 
 // 000101: 19a and 18a.
+#[tactic(auto, unfolding(crate::specs::Table::table))]
 fn modified(w: u64) -> Known
     requires { field 47 42 w ≡ 5 }
     ensures { result ≡ known_in w }
@@ -154,6 +162,7 @@ fn modified(w: u64) -> Known
 }
 
 // 000110: 25a.
+#[tactic(auto, unfolding(crate::specs::Table::table))]
 fn call(w: u64) -> Known
     requires { field 47 42 w ≡ 6 }
     ensures { result ≡ known_in w }
@@ -165,6 +174,7 @@ fn call(w: u64) -> Known
 }
 
 // 000: the forms with an opcode of eight bits.
+#[tactic(auto, unfolding(crate::specs::Table::table))]
 pub fn by_opcode(w: u64) -> Known
     requires { field 47 45 w ≡ 0 }
     ensures { result ≡ known_in w }

@@ -108,6 +108,7 @@ pub fn compute_at(n: u64) -> Held
 }
 
 // The compute of 23 bits beside a move, where 0 is none.
+#[tactic(auto, unfolding(crate::specs::Table::beside_at))]
 pub fn beside_at(n: u64) -> Held
     ensures { result ≡ table.beside_at n }
 {

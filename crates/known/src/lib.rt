@@ -31,6 +31,7 @@ pub struct Held {
 }
 
 // What a word of 48 bits stands for at its front, by its highest bits.
+#[tactic(auto, unfolding(crate::specs::Table::table))]
 pub fn known_in(w: u64) -> Known
     ensures { result ≡ known_in w }
 {
@@ -79,6 +80,7 @@ fn starts_leaf(parcels: &[u16]) -> bool
 }
 
 // What stands at the front; a form that is cut short is unknown.
+#[tactic(auto, unfolding(crate::specs::Window::known_at))]
 fn known_front(parcels: &[u16]) -> Known
     ensures { result ≡ front.known_at parcels.now }
 {

@@ -57,6 +57,7 @@ pub fn condition_at(n: u64) -> u32
 }
 
 // Whether a code is an I, M, L or B register of DAG2 (pm), or of DAG1.
+#[tactic(auto, unfolding(encode::specs::Registers::in_dag))]
 pub fn in_dag(code: u32, pm: bool) -> bool
     ensures { result ≡ in_dag code pm }
 {

@@ -177,6 +177,7 @@ impl State {
     }
 
     // The word of the start of the loop of this record, were it to end here.
+    #[tactic(auto, unfolding(crate::specs::Machine::top_form))]
     fn top_form(self, top: OpenLoop) -> Form
         requires { self.last ≤ most_parcels }
         ensures { result ≡ top_form self top }
@@ -188,6 +189,7 @@ impl State {
     }
 
     // What a loop end is refused for, the innermost open loop having this record.
+    #[tactic(auto, unfolding(crate::specs::Machine::top_form))]
     fn end_check(self, top: OpenLoop) -> Verdict
         requires { (self.last ≤ most_parcels) × (self.short ≤ most_parcels) × (self.shortat ≤ most_parcels) }
         ensures { result ≡ end_chk self top }

@@ -79,6 +79,7 @@ fn put(parcels: &mut [u16], at: usize, form: Form) -> Verdict
 }
 
 // The word of a jump at a place to the label of its name: 12 if there is none, 9 if it is too far.
+#[tactic(auto, unfolding(settling::specs::Settling::aim_form))]
 fn jump_word(names: &[u8], labels: &[u32], n: usize, at: usize, item: Coded) -> Form
     requires { (label_width * n ≤ length labels.now) × Entries names.now labels.now n × (at ≤ most_parcels) × CodedFine (length names.now) item }
     ensures { result ≡ jump_forms names.now labels.now n at item }

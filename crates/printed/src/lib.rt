@@ -12,6 +12,7 @@ ghost use Rattle.printed.specs.Printed.{list_text, printed};
 use reader::{Reader, Reading};
 
 // The text of the build of rows and names at the front, and its length.
+#[tactic(auto, unfolding(crate::specs::Printed::list_text))]
 fn list(rows: &[u32], names: &[u8], out: &mut [u8]) -> usize
     requires { 15384 ≤ length out.old }
     ensures { Shows (list_text rows.now names.now) out.new result }

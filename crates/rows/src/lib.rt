@@ -40,6 +40,7 @@ pub fn well_formed(rows: &[u32]) -> bool
 }
 
 // The condition with a number.
+#[tactic(auto, unfolding(crate::specs::Fields::condition_of))]
 pub fn condition_of(v: u32) -> Condition
     ensures { result ≡ condition_of v }
 {
@@ -55,6 +56,7 @@ pub fn condition_of(v: u32) -> Condition
 }
 
 // The direction with a number.
+#[tactic(auto, unfolding(crate::specs::Fields::direction_of))]
 fn direction_of(v: u32) -> Direction
     ensures { result ≡ direction_of v }
 {
@@ -65,6 +67,7 @@ fn direction_of(v: u32) -> Direction
 }
 
 // The address update with a number.
+#[tactic(auto, unfolding(crate::specs::Fields::update_of))]
 fn update_of(v: u32) -> Update
     ensures { result ≡ update_of v }
 {
@@ -75,6 +78,7 @@ fn update_of(v: u32) -> Update
 }
 
 // The ALU operation with a number.
+#[tactic(auto, unfolding(crate::specs::Fields::alu_op_of))]
 fn alu_op_of(v: u32) -> AluOp
     ensures { result ≡ alu_op_of v }
 {
@@ -85,6 +89,7 @@ fn alu_op_of(v: u32) -> AluOp
 }
 
 // The loop mode with a number.
+#[tactic(auto, unfolding(crate::specs::Fields::mode_of))]
 fn loop_mode_of(v: u32) -> LoopMode
     ensures { result ≡ mode_of v }
 {
@@ -95,6 +100,7 @@ fn loop_mode_of(v: u32) -> LoopMode
 }
 
 // The count of a loop start: `choice` says whether `v` is the number or a register's code.
+#[tactic(auto, unfolding(crate::specs::Fields::count_of))]
 fn loop_count_of(choice: u32, v: u32) -> LoopCount
     ensures { result ≡ count_of choice v }
 {
@@ -105,6 +111,7 @@ fn loop_count_of(choice: u32, v: u32) -> LoopCount
 }
 
 // The scalar instruction of a kind 0 to 12 with its fields.
+#[tactic(auto, unfolding(crate::specs::Fields::scalars))]
 fn scalar_of(kind: u32, a: u32, b: u32, c: u32) -> Instruction
     ensures { result ≡ scalar_of kind a b c }
 {
@@ -132,6 +139,7 @@ fn scalar_of(kind: u32, a: u32, b: u32, c: u32) -> Instruction
 }
 
 // The transfer of a kind 16 to 24 with its fields.
+#[tactic(auto, unfolding(crate::specs::Fields::transfers))]
 fn transfer_of(kind: u32, a: u32, b: u32, c: u32) -> VisaInstruction
     ensures { result ≡ transfer_of kind a b c }
 {
@@ -177,6 +185,7 @@ fn transfer_of(kind: u32, a: u32, b: u32, c: u32) -> VisaInstruction
 }
 
 // The instruction of a kind 25 to 31 or 35 to 39 with its fields.
+#[tactic(auto, unfolding(crate::specs::Fields::others))]
 fn other_of(kind: u32, a: u32, b: u32, c: u32) -> VisaInstruction
     ensures { result ≡ other_of kind a b c }
 {
@@ -210,6 +219,7 @@ fn other_of(kind: u32, a: u32, b: u32, c: u32) -> VisaInstruction
 }
 
 // The single compute of a kind with its fields, or refusal 17.
+#[tactic(auto, unfolding(crate::specs::Fields::instruction_of, encode::specs::Layouts::layout_of, crate::specs::Fields::others, crate::specs::Fields::scalars))]
 fn single_of(kind: u32, a: u32, b: u32, c: u32) -> Made
     ensures { result ≡ single_of kind a b c }
 {
@@ -251,6 +261,7 @@ fn multi_of(row: &[u32]) -> FloatMulAlu
 }
 
 // The compute of a row that has one, or its refusal.
+#[tactic(auto, unfolding(crate::specs::Rows::compute_of))]
 fn compute_of(row: &[u32]) -> Made
     requires { length row.now ≡ 17 }
     ensures { result ≡ compute_of row.now }
@@ -262,6 +273,7 @@ fn compute_of(row: &[u32]) -> Made
 }
 
 // The compute beside a move, which may be none.
+#[tactic(auto, unfolding(crate::specs::Rows::beside_of))]
 fn beside_of(row: &[u32]) -> Beside
     requires { length row.now ≡ 17 }
     ensures { result ≡ beside_of row.now }
@@ -276,6 +288,7 @@ fn beside_of(row: &[u32]) -> Beside
 }
 
 // One post-modify half of a dual move.
+#[tactic(auto, unfolding(crate::specs::Rows::data_access_of))]
 fn data_access_of(a: u32, b: u32, c: u32, d: u32) -> DataAccess
     ensures { result ≡ data_access_of a b c d }
 {
@@ -289,6 +302,7 @@ fn data_access_of(a: u32, b: u32, c: u32, d: u32) -> DataAccess
 }
 
 // The access of a memory move.
+#[tactic(auto, unfolding(crate::specs::Rows::memory_access_of))]
 fn memory_access_of(a: u32, b: u32, c: u32, d: u32, e: u32) -> MemoryAccess
     ensures { result ≡ memory_access_of a b c d e }
 {
@@ -341,6 +355,7 @@ fn memory_item(access: MemoryAccess, beside: Beside) -> Read
 }
 
 // The item of an instruction of a kind that holds no compute, with its fields.
+#[tactic(auto, unfolding(crate::specs::Fields::instruction_of))]
 fn instruction_item(kind: u32, a: u32, b: u32, c: u32) -> Read
     ensures { result ≡ Read.Item (Item.Instruction (instruction_of kind a b c)) }
 {
@@ -354,6 +369,7 @@ fn instruction_item(kind: u32, a: u32, b: u32, c: u32) -> Read
 }
 
 // The item of a row whose places hold numbers of its fields, or the refusal of its compute.
+#[tactic(auto, unfolding(crate::specs::Rows::item_of))]
 fn item_of(row: &[u32]) -> Read
     requires { length row.now ≡ 17 }
     ensures { result ≡ item_of row.now }
@@ -396,6 +412,7 @@ fn item_of(row: &[u32]) -> Read
 }
 
 // What a row of seventeen numbers says, with `names` bytes of names: an item, or refusal 2, 4, 17, 18 or 19.
+#[tactic(auto, unfolding(crate::specs::Rows::read_of))]
 pub fn read_row(row: &[u32], names: usize) -> Read
     requires { length row.now ≡ 17 }
     ensures { result ≡ read_of row.now names }

@@ -19,6 +19,7 @@ use refusals::{Judged, Refusal, Verdict};
 use tables::Sought;
 
 // The word of a jump at place p to address q stands there, if it encodes.
+#[tactic(auto, unfolding(crate::specs::Settling::aim_form))]
 fn settle(condition: Condition, p: usize, q: u32, parcels: &mut [u16]) -> Verdict
     requires { (p + 3 ≤ length parcels.old) × (p ≤ most_parcels) }
     ensures { (result ≡ form_verdict (aim_form condition p q)) × (parcels.new ≡ if_good result (sets parcels.old p (settled (aim_form condition p q))) parcels.old) }

@@ -43,6 +43,7 @@ fn put_number(out: &mut [u8], at: usize, word: &[u8], n: u32) -> usize
 }
 
 // The line of a change, a row and its old kind; the place after it.
+#[tactic(auto, unfolding(crate::specs::Printed::change_line))]
 fn put_change(out: &mut [u8], at: usize, pair: &[u32]) -> usize
     requires { (length pair.now ≡ 2) × (at + 50 ≤ length out.old) }
     ensures { Puts out.old at (change_line pair.now) out.new result }

@@ -27,6 +27,7 @@ fn count_for(entry: usize, opens: usize, closes: usize) -> Counted
 }
 
 // What a row of this kind counts for.
+#[tactic(auto, unfolding(crate::specs::Walks::mark_of))]
 fn mark(kind: u32) -> Counted
     ensures { result ≡ mark_of kind }
 {
