@@ -1,5 +1,5 @@
 -- A row's sixteen bounds are its first eight and its last eight: where a line of the table ends, spare places follow.
-use Prim.Native.Nat.{ℕ, zero, suc, ◌+◌, ◌-◌, ◌≤◌}
+use Prim.Native.Nat.{ℕ, zero, suc, ◌+◌, ◌≤◌}
 use mathlib.Core.List.{List, [], ◌∷◌, ◌++◌}
 use mathlib.Core.Path.{◌≡◌, refl, sym, ap, ◌∙◌}
 use mathlib.Core.Bool.{Bool, true, false, cond, ◌&&◌}
@@ -44,13 +44,13 @@ back-line : (l : List ℕ) → length l ≤ 8 → drop 8 (filled 16 l) ≡ repli
 back-line l h = drop-take 8 8 (l ++ replicate 16 spare) ∙ spare-past 8 8 16 l h (omega arith)
 
 -- the three field places of a single compute are the first three of its kind's line
-pub three-places :
+pub three_places :
     (l : List ℕ) →
     form ∷ word ∷ get_or (filled 8 l) 0 0 ∷ get_or (filled 8 l) 1 0 ∷ get_or (filled 8 l) 2 0 ∷ spare ∷ spare ∷ spare ∷ [] ≡ filled 8 (form ∷ word ∷ filled 3 l)
-three-places [] = refl
-three-places (a ∷ []) = refl
-three-places (a ∷ b ∷ []) = refl
-three-places (a ∷ b ∷ c ∷ l) = refl
+three_places [] = refl
+three_places (a ∷ []) = refl
+three_places (a ∷ b ∷ []) = refl
+three_places (a ∷ b ∷ c ∷ l) = refl
 
 -- a compute's eight places, and what follows them
 module _ (none : ℕ) (row : List ℕ) where

@@ -47,6 +47,7 @@ pub enum Places {
 }
 
 // The first eight bounds of a kind whose fields' bounds are the same in each row; nothing fits the first place of any other kind.
+#[tactic(auto, unfolding(crate::specs::Bounds::fields))]
 fn fixed(kind: u32) -> [u64; 8]
     ensures { result ≡ filled 8 (lookup kind fields (never ∷ [])) }
 {
@@ -107,6 +108,7 @@ fn is_instruction(kind: u32) -> bool
 }
 
 // The eight bounds of a single compute of a kind.
+#[tactic(auto, using(crate::proofs::Filled::three_places))]
 fn single_bounds(kind: u32) -> [u64; 8]
     ensures { result ≡ filled 8 (form ∷ single kind) }
 {
@@ -121,6 +123,7 @@ fn single_bounds(kind: u32) -> [u64; 8]
 }
 
 // The eight bounds of a row's compute, where `none` is the bound of the first if there is no compute.
+#[tactic(auto, unfolding(crate::specs::Bounds::compute))]
 fn compute_bounds(none: u64, row: &[u32]) -> [u64; 8]
     requires { length row.now ≡ 17 }
     ensures { result ≡ compute none row.now }
@@ -227,6 +230,7 @@ fn name_inside(kind: u32, a: u32, b: u32, c: u32, names: usize) -> bool
 }
 
 // Whether a row's places hold numbers of its fields, or the refusal 2 or 4, with `names` bytes of names.
+#[tactic(auto, unfolding(crate::specs::Checks::check_of))]
 pub fn check(row: &[u32], names: usize) -> Verdict
     requires { length row.now ≡ 17 }
     ensures { result ≡ check_of row.now names }
