@@ -1,16 +1,16 @@
 -- Any byte but 10 leaves a line at hand, which the end of the input ends as byte 10 does.
 use mathlib.Core.Path.{◌≡◌, refl, sym, ◌∙◌}
-use mathlib.Core.Bool.{Bool, true, false, true≢false}
+use mathlib.Core.Bool.{true, false, true≢false}
 use mathlib.Core.List.{List, [], ◌∷◌}
 use mathlib.Core.Logic.{◌⊎◌, inl, inr}
-use Prim.Native.Nat.{ℕ, ◌+◌, ◌-◌, ◌*◌, ◌≤◌, ◌<◌, ◌^◌}
+use Prim.Native.Nat.{ℕ, ◌+◌, ◌-◌, ◌*◌, ◌<◌, ◌^◌}
 use native.Mathlib.Omega.{arith}
 use lib.Dec.{ltb, leb, eqb}
 use borrow.Author.Tests.{eqb-true, lt-ltb}
 use Rattle.reader.specs.declared.Reader.{Reader}
 use Rattle.reader.specs.Lines.{is_digit}
 use Rattle.reader.specs.Steps.{Fine, failed, digit_of, With, letter_of, tab_of, Mem, turn_of, run, ended}
-use Rattle.reader.proofs.Conds.{yes, no, cond_keeps}
+use Rattle.reader.proofs.Conds.{yes, cond_keeps}
 use Rattle.reader.proofs.Cuts.{Free}
 use Rattle.reader.proofs.Turns.{turn-unread}
 use Rattle.reader.proofs.Keeps.{turn-fine}

@@ -1,11 +1,11 @@
 -- An input is its lines, each followed by byte 10 but perhaps the last.
-use mathlib.Core.Path.{◌≡◌, refl, sym, ap, subst}
+use mathlib.Core.Path.{◌≡◌, refl, sym, subst}
 use mathlib.Core.Bool.{Bool, true, false}
-use mathlib.Core.List.{List, [], ◌∷◌, ◌++◌, append-nil, append_assoc}
+use mathlib.Core.List.{List, [], ◌∷◌, ◌++◌, append_assoc}
 use Prim.Native.Nat.{ℕ}
 use lib.Dec.{eqb}
 use borrow.Author.Tests.{eqb-true}
-use Rattle.reader.specs.Lines.{onto, lines, fields}
+use Rattle.reader.specs.Lines.{onto, lines}
 
 -- a list without byte 10
 abbrev pub Free : List ℕ → Type 0

@@ -1,8 +1,8 @@
 -- What is still to be fed gives, from here, what all of it gives from the start.
 use mathlib.Core.Path.{◌≡◌, refl, sym, ap, subst, ◌∙◌}
 use mathlib.Core.Bool.{true}
-use mathlib.Core.List.{List, [], ◌∷◌, ◌++◌}
-use Prim.Native.Nat.{ℕ, suc, ◌+◌, ◌≤◌, ◌<◌}
+use mathlib.Core.List.{List, ◌++◌}
+use Prim.Native.Nat.{ℕ, ◌+◌, ◌≤◌, ◌<◌}
 use native.Mathlib.Omega.{arith}
 use native.Mathlib.Numerals.{add-one}
 use lib.ListN.{length, get_or, drop, replicate, length-replicate}
@@ -10,7 +10,7 @@ use lib.Seq.{drop-cons, drop-length}
 use Rattle.reader.specs.declared.Reader.{Reader}
 use Rattle.reader.specs.declared.Reading.{Reading}
 use Rattle.reader.specs.Lines.{said}
-use Rattle.reader.specs.Steps.{Fine, line_start, Mem, mem, turn_of, run, ended, reading_of, Has, HasSome, Tells}
+use Rattle.reader.specs.Steps.{Fine, Mem, mem, turn_of, run, ended, reading_of, Has, HasSome, Tells}
 use Rattle.reader.proofs.Turns.{run-append, run-unread}
 use Rattle.reader.proofs.Keeps.{start_fine, turn-fine, run-fine, ended-fine}
 use Rattle.reader.proofs.Whole.{told}

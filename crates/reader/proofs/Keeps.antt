@@ -1,18 +1,16 @@
 -- A byte keeps a reader fine.
-use mathlib.Core.Path.{◌≡◌, refl, sym, ap, ◌∙◌}
-use mathlib.Core.Bool.{Bool, true, false}
-use mathlib.Core.List.{List, [], ◌∷◌, ◌++◌}
+use mathlib.Core.Path.{◌≡◌, refl}
+use mathlib.Core.List.{List, [], ◌∷◌}
 use mathlib.Core.Logic.{◌⊎◌, inl, inr}
 use Prim.Native.Nat.{ℕ, ◌+◌, ◌-◌, ◌*◌, ◌≤◌, ◌<◌, ◌^◌}
 use native.Mathlib.Omega.{arith}
 use lib.Dec.{ltb, leb, eqb}
-use borrow.Author.Tests.{ltb-true, leb-false, eqb-true, eqb-false, lt-ltb}
+use borrow.Author.Tests.{ltb-true, leb-false}
 use Rattle.reader.specs.declared.Reader.{Reader}
 use Rattle.reader.specs.Lines.{is_digit}
-use Rattle.reader.specs.Steps.{Fine, line_start, failed, digit_of, With, with, letter_of, name_at, name_of, tab_of, end_of, Mem, mem, mem_in_rows, in_names, turn_of, run, ended}
+use Rattle.reader.specs.Steps.{Fine, line_start, failed, digit_of, With, letter_of, name_at, name_of, tab_of, end_of, Mem, turn_of, run, ended}
 use Rattle.reader.proofs.Conds.{cond_keeps}
 use Rattle.reader.proofs.Readable.{name_range, name-later}
-use Rattle.reader.proofs.Turns.{turn-unread}
 
 -- ---- fine
 fail_fine : (s : Reader) → Fine s → Fine (failed s)

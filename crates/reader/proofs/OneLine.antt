@@ -1,16 +1,16 @@
 -- A line, from any place in it to its end: the reader comes to what the line's fields say.
 use mathlib.Core.Path.{◌≡◌, refl, sym, ap, ◌∙◌}
-use mathlib.Core.Bool.{Bool, true, false, ◌&&◌, cond}
+use mathlib.Core.Bool.{Bool, true, false, cond}
 use mathlib.Core.List.{List, [], ◌∷◌, ◌++◌, map, append-nil, append_assoc}
 use mathlib.Core.Logic.{◌⊎◌, inl, inr}
-use Prim.Native.Nat.{ℕ, suc, ◌+◌, ◌-◌, ◌*◌, ◌≤◌, ◌<◌, ◌^◌}
+use Prim.Native.Nat.{ℕ, ◌+◌, ◌-◌, ◌*◌, ◌≤◌, ◌<◌, ◌^◌}
 use native.Mathlib.Omega.{arith}
 use lib.ListN.{length, length-append}
-use lib.Dec.{ltb, leb, eqb}
+use lib.Dec.{ltb, eqb}
 use borrow.Author.Tests.{lt-ltb, le-leb, lt-leb, ltb-true, ltb-false, eqb-true}
 use Rattle.reader.specs.declared.Reader.{Reader}
 use Rattle.reader.specs.Lines.{onto, fields, is_digit, every, value, is_number, Line, numbers, named, kind_of, line_of, is_read_line, name_in, row_in, fits}
-use Rattle.reader.specs.Steps.{line_start, failed, name_at, Mem, mem, turn_of, run}
+use Rattle.reader.specs.Steps.{line_start, failed, Mem, mem, turn_of, run}
 use Rattle.reader.proofs.Buffers.{over}
 use Rattle.reader.proofs.Values.{and_false, every_one_more, number-yes, number-empty, number-letter, number_large, value_one_more}
 use Rattle.reader.proofs.Cuts.{Free, prefixed, prefixed-byte}

@@ -1,8 +1,7 @@
 -- Inputs that document 01 and its readings name, by computation.
 use mathlib.Core.Path.{◌≡◌, refl}
-use mathlib.Core.List.{List, [], ◌∷◌, ◌++◌}
-use Prim.Native.Nat.{ℕ}
-use Rattle.reader.specs.Lines.{is_number, plain, naming, line_of, filled, fits, Said, rows, unread, said}
+use mathlib.Core.List.{[], ◌∷◌, ◌++◌}
+use Rattle.reader.specs.Lines.{is_number, plain, naming, line_of, filled, fits, rows, unread, said}
 
 -- `48⇥top`, `25⇥1⇥1`, `49⇥1⇥top`, `38`
 example :

@@ -1,9 +1,9 @@
 -- Which way a byte goes; an unread line stays so.
-use mathlib.Core.Path.{◌≡◌, refl, sym, ap, ◌∙◌}
-use mathlib.Core.Bool.{Bool, true, false, cond}
+use mathlib.Core.Path.{◌≡◌, refl, sym}
+use mathlib.Core.Bool.{true, false, cond}
 use mathlib.Core.List.{List, [], ◌∷◌, ◌++◌}
-use Prim.Native.Nat.{ℕ, ◌+◌, ◌≤◌, ◌<◌}
-use lib.Dec.{ltb, leb, eqb}
+use Prim.Native.Nat.{ℕ, ◌<◌}
+use lib.Dec.{eqb}
 use borrow.Author.Tests.{lt-leb, eq-eqb, ne_eqb}
 use Rattle.reader.specs.declared.Reader.{Reader}
 use Rattle.reader.specs.Steps.{digit_of, letter_of, tab_of, end_of, Mem, mem, mem_in_rows, in_names, turn_of, run}

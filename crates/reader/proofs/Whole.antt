@@ -1,18 +1,16 @@
 -- The lines in turn: after each the reader stands at the start of the next, with the rows and names so far, or is unread for good.
-use mathlib.Core.Path.{◌≡◌, refl, sym, ap, ap₂, ◌∙◌}
+use mathlib.Core.Path.{◌≡◌, refl, sym, ap, ◌∙◌}
 use mathlib.Core.Bool.{Bool, true, false, ◌&&◌, false≢true, cond}
-use mathlib.Core.List.{List, [], ◌∷◌, ◌++◌, map, append-nil}
-use mathlib.Core.Logic.{◌⊎◌, inl, inr}
-use Prim.Native.Nat.{ℕ, suc, ◌+◌, ◌-◌, ◌*◌, ◌≤◌, ◌<◌, min}
+use mathlib.Core.List.{List, [], ◌∷◌, ◌++◌, map}
+use Prim.Native.Nat.{ℕ, ◌+◌, ◌-◌, ◌*◌, ◌≤◌, ◌<◌}
 use native.Mathlib.Omega.{arith}
-use lib.ListN.{length, take, replicate, get_or, length-append, length-replicate, length-map, length-take}
+use lib.ListN.{length, take, replicate, length-append, length-replicate, length-map, length-take}
 use lib.Dec.{ltb, leb, eqb}
-use borrow.Author.Tests.{le-leb, le-ltb, ltb-true, ltb-false, leb-true}
+use borrow.Author.Tests.{le-leb, ltb-true, ltb-false, leb-true}
 use Rattle.reader.specs.declared.Reader.{Reader}
-use Rattle.reader.specs.declared.Reading.{Reading}
-use Rattle.reader.specs.declared.Reading.TheVariants.{Read, Unread}
+use Rattle.reader.specs.declared.Reading.TheVariants.{Read}
 use Rattle.reader.specs.Lines.{lines, fields, every, value, is_number, Line, numbers, named, unreadable, plain, naming, kind_of, line_of, is_read_line, name_in, row_in, fits, Said, rows, unread, said_from, said}
-use Rattle.reader.specs.Steps.{Fine, line_start, failed, Mem, mem, turn_of, run, ended, reading_of, Tells}
+use Rattle.reader.specs.Steps.{line_start, failed, Mem, mem, turn_of, run, ended, reading_of, Tells}
 use Rattle.reader.proofs.Conds.{yes, no, cond_keeps}
 use Rattle.reader.proofs.Buffers.{over, over-front}
 use Rattle.reader.proofs.Cuts.{Free, Lined, none, last, more, lined, lines_more, lines-last}

@@ -1,9 +1,9 @@
 -- The private level: what a byte does to the reader and its two buffers. What the input says is stated in `Lines` alone.
-use Rattle.std.specs.Prelude.{◌≡◌, Bool, true, false, cond, List, [], ◌∷◌, ◌++◌, ◌⊎◌, ℕ, ◌+◌, ◌-◌, ◌*◌, ◌≤◌, ◌<◌, ◌^◌, length, take, replicate, set, ltb, leb, eqb}
+use Rattle.std.specs.Prelude.{◌≡◌, true, false, cond, List, [], ◌∷◌, ◌⊎◌, ℕ, ◌+◌, ◌-◌, ◌*◌, ◌≤◌, ◌<◌, ◌^◌, length, take, replicate, set, ltb, leb, eqb}
 use Rattle.reader.specs.declared.Reader.{Reader}
 use Rattle.reader.specs.declared.Reading.{Reading}
 use Rattle.reader.specs.declared.Reading.TheVariants.{Read, Unread}
-use Rattle.reader.specs.Lines.{is_digit, Said, rows, unread, said}
+use Rattle.reader.specs.Lines.{is_digit, Said, rows, unread}
 
 -- what holds of a reader that was fed anything
 pub record Fine (s : Reader) : Type 0 where

@@ -1,57 +1,39 @@
 // Standard input to its end.
-ghost use Rattle.std.specs.Prelude.{◌<◌, ◌≤◌};
+ghost use Rattle.std.specs.Prelude.{◌≤◌, length};
 ghost use Rattle.reader.specs.Steps.{HasSome};
 
 use crate::Reader;
-use libc::STDIN_FILENO;
+use std::io::Read;
 
-// The reader, and how many reads are left.
-#[derive(Clone, Copy)]
-struct Feed {
-    reader: Reader,
-    left: u64,
-}
-
-// A chunk. After an unread line, which nothing that follows can mend, no read is left.
-fn take(feed: Feed, chunk: &[u8], rows: &mut [u32; 8704], names: &mut [u8; 2048]) -> Feed
-    requires { HasSome feed.reader rows.old names.old }
-    ensures { (HasSome result.reader rows.new names.new) × (result.left ≤ feed.left) }
+// A chunk of the input, which a read put at the front of the buffer: how many bytes. None at the input's end, and where a read fails.
+fn read_some(rt: &HostRuntime, buf: &mut [u8]) -> usize
+    ensures { result ≤ length buf.new }
 {
-    let mut s = feed;
-    s.reader = feed.reader.feed(chunk, rows, names);
-    if s.reader.unread {
-        s.left = 0;
+    match rt.stdin().read(buf) {
+        Ok(n) => n,
+        Err(_) => 0,
     }
-    s
 }
 
-// One read of standard input. At its end none is left.
-fn read_some(feed: Feed, buf: &mut [u8], rows: &mut [u32; 8704], names: &mut [u8; 2048]) -> Feed
-    requires { (HasSome feed.reader rows.old names.old) × (0 < feed.left) }
-    ensures { (HasSome result.reader rows.new names.new) × (result.left < feed.left) }
-{
-    let left = feed.left;
-    let got = libc::read(STDIN_FILENO, buf);
-    let mut s = feed;
-    if got <= 0 {
-        s.left = 0;
-        return s;
-    }
-    let n = io::count(got, buf);
-    s.left = left - 1;
-    take(s, &buf[..n], rows, names)
-}
-
-// All of standard input. A proved loop has to end, so it counts its reads down from a number that no run uses up.
-pub fn read_all(buf: &mut [u8], rows: &mut [u32; 8704], names: &mut [u8; 2048]) -> Reader
+// All of standard input. After an unread line, which nothing that follows can mend, nothing more is read.
+pub fn read_all(
+    rt: &HostRuntime,
+    buf: &mut [u8],
+    rows: &mut [u32; 8704],
+    names: &mut [u8; 2048],
+) -> Reader
     ensures { HasSome result rows.new names.new }
 {
-    let mut s = Feed {
-        reader: Reader::new(rows, names),
-        left: u64::MAX,
-    };
-    while 0 < s.left {
-        s = read_some(s, buf, rows, names);
+    let mut reader = Reader::new(rows, names);
+    for _ in 0..u64::MAX {
+        let n = read_some(rt, buf);
+        if n == 0 {
+            break;
+        }
+        reader = reader.feed(&buf[..n], rows, names);
+        if reader.unread {
+            break;
+        }
     }
-    s.reader
+    reader
 }

@@ -51,6 +51,7 @@ impl Reader {
     }
 
     // The line at hand is unread.
+    #[tactic(auto, unfolding(crate::specs::Steps::failed))]
     fn failed(self) -> Reader
         ensures { result ≡ failed self }
     {
@@ -60,6 +61,7 @@ impl Reader {
     }
 
     // A byte of a number.
+    #[tactic(auto, unfolding(crate::specs::Steps::digit_of, crate::specs::Steps::failed))]
     fn digit(self, b: u8) -> Reader
         ensures { result ≡ digit_of self b }
     {
@@ -80,6 +82,7 @@ impl Reader {
     }
 
     // A byte of a name.
+    #[tactic(auto, unfolding(crate::specs::Steps::letter_of, crate::specs::Steps::failed))]
     fn letter(self, b: u8, names: &mut [u8; 2048]) -> Reader
         requires { Fine self }
         ensures { with result names.new ≡ letter_of self b names.old }
@@ -105,6 +108,7 @@ impl Reader {
     }
 
     // A tab: the number at hand is over, and another field begins.
+    #[tactic(auto, unfolding(crate::specs::Steps::tab_of, crate::specs::Steps::failed))]
     fn tab(self, rows: &mut [u32; 8704]) -> Reader
         requires { (Fine self) × (self.items < 512) }
         ensures { with result rows.new ≡ tab_of self rows.old }
@@ -126,6 +130,7 @@ impl Reader {
     }
 
     // Byte 10: the field at hand is over, and so is the line.
+    #[tactic(auto, unfolding(crate::specs::Steps::end_of, crate::specs::Steps::failed))]
     fn end(self, rows: &mut [u32; 8704]) -> Reader
         requires { (Fine self) × (self.items < 512) }
         ensures { with result rows.new ≡ end_of self rows.old }
@@ -148,6 +153,7 @@ impl Reader {
     }
 
     // One byte.
+    #[tactic(auto, unfolding(crate::specs::Steps::turn_of, crate::specs::Steps::failed))]
     fn turn(self, b: u8, rows: &mut [u32; 8704], names: &mut [u8; 2048]) -> Reader
         requires { Fine self }
         ensures { mem result rows.new names.new ≡ turn_of (mem self rows.old names.old) b }
@@ -172,6 +178,7 @@ impl Reader {
 }
 
 // Which field is the name in a line of the kind: 17 for none of them.
+#[tactic(auto, unfolding(crate::specs::Steps::name_at))]
 fn name_at(kind: u32) -> usize
     ensures { result ≡ name_at kind }
 {
@@ -209,6 +216,7 @@ impl Reader {
     }
 
     // The input ends, and with it a line at hand.
+    #[tactic(auto, unfolding(crate::specs::Steps::ended))]
     fn ended(self, rows: &mut [u32; 8704], names: &mut [u8; 2048]) -> Reader
         requires { Fine self }
         ensures { mem result rows.new names.new ≡ ended (mem self rows.old names.old) }
@@ -223,6 +231,7 @@ impl Reader {
     }
 
     // What it comes to.
+    #[tactic(auto, unfolding(crate::specs::Steps::reading_of))]
     fn reading(self) -> Reading
         requires { Fine self }
         ensures { (result ≡ reading_of self) × Within result }
