@@ -85,6 +85,7 @@ pub fn put_hex(out: &mut [u8], at: usize, p: u16) -> usize
 }
 
 // A parcel's line; the place after it.
+#[tactic(auto, using(crate::proofs::Putting::puts_then), unfolding(crate::specs::Text::parcel_line))]
 fn put_parcel(out: &mut [u8], at: usize, p: u16) -> usize
     requires { at + 5 ≤ length out.old }
     ensures { Puts out.old at (parcel_line p) out.new result }
@@ -108,6 +109,7 @@ fn put_parcels(out: &mut [u8], at: usize, parcels: &[u16]) -> usize
 }
 
 // A word and a number; the place after them.
+#[tactic(auto, using(crate::proofs::Putting::puts_then))]
 pub fn put_head(out: &mut [u8], at: usize, word: &[u8], n: u64) -> usize
     requires { at + length word.now + 20 ≤ length out.old }
     ensures puts { Puts out.old at (word.now ++ decimal n) out.new result }
@@ -118,6 +120,7 @@ pub fn put_head(out: &mut [u8], at: usize, word: &[u8], n: u64) -> usize
 }
 
 // A tab and a detail; the place after them.
+#[tactic(auto, using(crate::proofs::Putting::puts_then))]
 fn put_detail(out: &mut [u8], at: usize, z: i64) -> usize
     requires { at + 22 ≤ length out.old }
     ensures puts { Puts out.old at (detail z) out.new result }
