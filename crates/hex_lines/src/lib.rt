@@ -29,6 +29,7 @@ pub enum Reading {
 }
 
 // The value of a hex digit; 16 of any other byte.
+#[tactic(auto, unfolding(crate::specs::Parcels::hex_value))]
 fn hex_value(b: u8) -> u32
     ensures { (result ≡ hex_value b) × (result ≤ 16) }
 {
@@ -68,6 +69,7 @@ impl Reader {
     }
 
     // The line at hand is unread.
+    #[tactic(auto, unfolding(crate::specs::Steps::failed))]
     fn failed(self) -> Reader
         ensures { result ≡ failed self }
     {
@@ -77,6 +79,7 @@ impl Reader {
     }
 
     // A byte of a parcel.
+    #[tactic(auto, using(crate::proofs::Ranges::more), unfolding(crate::specs::Steps::digit_of, crate::specs::Steps::failed))]
     fn digit(self, b: u8) -> Reader
         requires { Fine self }
         ensures { result ≡ digit_of self b }
@@ -95,6 +98,7 @@ impl Reader {
     }
 
     // `o`, which begins the line of a count if it is the first byte of all.
+    #[tactic(auto, unfolding(crate::specs::Steps::begin_of, crate::specs::Steps::failed))]
     fn begin(self) -> Reader
         requires { (Fine self) × (self.at < 5) }
         ensures { result ≡ begin_of self }
@@ -109,6 +113,7 @@ impl Reader {
     }
 
     // The byte that is wanted, and the place after it.
+    #[tactic(auto, unfolding(crate::specs::Steps::word_of, crate::specs::Steps::failed))]
     fn word(self, b: u8, wanted: u8, next: usize) -> Reader
         ensures { result ≡ word_of self b wanted next }
     {
@@ -122,6 +127,7 @@ impl Reader {
     }
 
     // A byte of a count.
+    #[tactic(auto, unfolding(crate::specs::Steps::count_of, crate::specs::Steps::failed))]
     fn count(self, b: u8) -> Reader
         ensures { result ≡ count_of self b }
     {
@@ -142,6 +148,7 @@ impl Reader {
     }
 
     // A byte of a line that begins with `o`.
+    #[tactic(auto, unfolding(crate::specs::Steps::head_of))]
     fn head(self, b: u8) -> Reader
         ensures { result ≡ head_of self b }
     {
@@ -155,6 +162,7 @@ impl Reader {
     }
 
     // A byte of a line.
+    #[tactic(auto, unfolding(crate::specs::Steps::byte_of))]
     fn byte(self, b: u8) -> Reader
         requires { Fine self }
         ensures { result ≡ byte_of self b }
@@ -169,6 +177,7 @@ impl Reader {
     }
 
     // Byte 10: the line is over.
+    #[tactic(auto, unfolding(crate::specs::Steps::end_of, crate::specs::Steps::failed))]
     fn end(self, parcels: &mut [u16; 3072]) -> Reader
         requires { Fine self }
         ensures { mem result parcels.new ≡ end_of self parcels.old }
@@ -188,6 +197,7 @@ impl Reader {
     }
 
     // Any byte.
+    #[tactic(auto, unfolding(crate::specs::Steps::turn_of))]
     fn turn(self, b: u8, parcels: &mut [u16; 3072]) -> Reader
         requires { Fine self }
         ensures { mem result parcels.new ≡ turn_of (mem self parcels.old) b }
@@ -224,6 +234,7 @@ impl Reader {
     }
 
     // The input ends, and with it a line at hand.
+    #[tactic(auto, unfolding(crate::specs::Steps::ended))]
     fn ended(self, parcels: &mut [u16; 3072]) -> Reader
         requires { Fine self }
         ensures { mem result parcels.new ≡ ended (mem self parcels.old) }
@@ -235,6 +246,7 @@ impl Reader {
     }
 
     // What it comes to.
+    #[tactic(auto, unfolding(crate::specs::Steps::reading_of))]
     fn reading(self) -> Reading
         requires { Fine self }
         ensures { (result ≡ reading_of self) × Within result }

@@ -5,8 +5,8 @@ ghost use Rattle.reader.specs.Steps.{HasSome};
 use crate::Reader;
 use std::io::Read;
 
-// A chunk of the input, which a read put at the front of the buffer: how many bytes. None at the input's end, and where a read fails.
-fn read_some(rt: &HostRuntime, buf: &mut [u8]) -> usize
+// One read of standard input: how many bytes it put at the front of the buffer. 0 at the input's end, and where the read fails.
+pub fn read_some(rt: &HostRuntime, buf: &mut [u8]) -> usize
     ensures { result ≤ length buf.new }
 {
     match rt.stdin().read(buf) {
@@ -15,7 +15,8 @@ fn read_some(rt: &HostRuntime, buf: &mut [u8]) -> usize
     }
 }
 
-// All of standard input. After an unread line, which nothing that follows can mend, nothing more is read.
+// All of standard input. After an unread line, which nothing that follows can mend, nothing more is read. A proved loop has to end, so
+// it counts its reads up to a number that no run uses up.
 pub fn read_all(
     rt: &HostRuntime,
     buf: &mut [u8],
