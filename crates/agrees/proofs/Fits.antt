@@ -42,7 +42,7 @@ module _ (k : Kernel) (lent : Lent) (r : Rooms) (rooms : RoomingIn r lent) (fine
   deepest_in zero all = omega arith
   deepest_in (suc i) all =
       let h = deepest_in i (λ q u. all q (omega arith)) in
-      let d = (within-at (suc i) all).depth-in in
+      let d = (within-at (suc i) all).depth_in in
       omega arith
 
   pub fits-at : (i : ℕ) → AllPass (check_at k lent r) i → Fits k.it lent i

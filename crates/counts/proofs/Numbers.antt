@@ -83,7 +83,7 @@ numbered Instructions = record { one = refl; rows = refl; not_one = refl }
 
 -- no row is refused for 1
 pub row_not_one : (what : Counting) (rows names : List ℕ) (i : ℕ) → among (1 ∷ []) (checked (row_verdict what (row_at rows names i))).number ≡ false
-row_not_one what rows names i = other (0 ∷ row_numbers what) (1 ∷ []) (checked (row_verdict what (row_at rows names i))).number (numbered what).not-one (row_verdict_tells rows names i what)
+row_not_one what rows names i = other (0 ∷ row_numbers what) (1 ∷ []) (checked (row_verdict what (row_at rows names i))).number (numbered what).not_one (row_verdict_tells rows names i what)
 
 -- ---- THE THEOREMS
 module _ (what : Counting) (rows names : List ℕ) {told : Told} (c : Counts what rows names told) where

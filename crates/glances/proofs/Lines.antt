@@ -83,7 +83,7 @@ module _ (row : List ℕ) where
 
   module _ (n : length row ≡ 17) where
     reads-line : {kind a b c : ℕ} {f : Form} → Line kind a b c f → fits_of a b c row ≡ true → (names : ℕ) → read_of row names ≡ read.Item (item.Instruction (at-kind kind))
-    reads-line {kind} {a} {b} {c} l t = reads_three a b c row n l.fields-are l.in-x l.in-y l.in-z t
+    reads-line {kind} {a} {b} {c} l t = reads_three a b c row n l.fields_are l.in_x l.in_y l.in_z t
 
     -- what a line that fits shows
     coded : {kind a b c : ℕ} {f : Form} → Line kind a b c f → fits_of a b c row ≡ true → form_of (at-kind kind) ≡ f

@@ -168,8 +168,8 @@ in_turn (l ∷ ls) w i done past h k {rs} {names} e =
           n = suc t.n;
           mine = row ++ t.mine;
           rest = name ++ t.rest;
-          numbers_are = t.numbers-are ∙ append_assoc done row t.mine;
-          names_are = t.names-are ∙ append_assoc past name t.rest;
+          numbers_are = t.numbers_are ∙ append_assoc done row t.mine;
+          names_are = t.names_are ∙ append_assoc past name t.rest;
           turn =
               next t.n (row ++ t.mine) past name t.rest (subst (λ (r : List ℕ). Item past r name) (sym (take_at row t.mine 17 long)) item)
               (subst (λ (r : List ℕ). InTurn t.n r (past ++ name) t.rest) (sym (drop_at row t.mine 17 long)) t.turn);
@@ -196,4 +196,4 @@ pub record RowsInTurn (rs names : List ℕ) : Type 0 where
 pub said_in_turn : (input : List ℕ) {rs names : List ℕ} → said input ≡ rows rs names → RowsInTurn rs names
 said_in_turn input {rs} {names} e =
     let t = in_turn (lines input) (lines-each input) 0 [] [] (omega arith) (omega arith) e in
-    record { n = t.n; turn = rw (← t.numbers-are, ← t.names-are) at t.turn; few = omega (arith, t.few); short = t.short }
+    record { n = t.n; turn = rw (← t.numbers_are, ← t.names_are) at t.turn; few = omega (arith, t.few); short = t.short }

@@ -67,7 +67,7 @@ module _ (k : Kernel) (few : k.n ≤ 4194304) {r : Rooms} (lent : Lent) (e : r �
   J-is = record { held = y.jumps ∙ jumps_are k (jumps_at k lent.jumps) (λ q. refl) t jumps-room; many = jumps-length k t }
 
   deep : p.before.deepest ≤ length lent.loops
-  deep = let f = fit k r in rw y.before (omega (arith, rooming.loops-in, f.deep))
+  deep = let f = fit k r in rw y.before (omega (arith, rooming.loops_in, f.deep))
 
   finishes : Concluding k p (lent_of lent.parcels ls js [])
   finishes =
@@ -88,7 +88,7 @@ module _ (k : Kernel) (few : k.n ≤ 4194304) {r : Rooms} (lent : Lent) (e : r �
               held = subst (λ (i : ℕ). HoldsLabels it i ls) w (subst (HoldsLabels it t) (sym y.labels) (labels-held k (labels_at k lent.labels) (λ q. refl) t labels-room));
               labels_in = rw y.before (omega (arith, l, labels-room));
               parcels-few = rooming.parcels-few;
-              parcels_in = rooming.parcels-in;
+              parcels_in = rooming.parcels_in;
             };
       }
 
@@ -140,7 +140,7 @@ module _ (k : Kernel) (few : k.n ≤ 4194304) {r : Rooms} (lent : Lent) (e : r �
       whole = (all-good k r good).whole
 
       place-fits : place it n ≤ length lent.parcels
-      place-fits = let f = fits k r n (all-good k r good).passes in omega (arith, rooming.parcels-in, f.parcels)
+      place-fits = let f = fits k r n (all-good k r good).passes in omega (arith, rooming.parcels_in, f.parcels)
 
       abbrev W : ℕ → List ℕ
       W i = walked k lent.parcels place-fits i

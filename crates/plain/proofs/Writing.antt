@@ -95,7 +95,7 @@ module _ (k : Kernel) {ls : List ℕ} {count room : ℕ} (w : Writable k ls coun
   f = fits k r n w.passed
 
   pub place_in : place it i + size (it i) ≤ room
-  place_in = let u = total-up size it (suc i) n before in let v = f.parcels in omega (arith, w.parcels-in)
+  place_in = let u = total-up size it (suc i) n before in let v = f.parcels in omega (arith, w.parcels_in)
 
   pub place-few : place it i + size (it i) ≤ 16777216
   place-few = let u = total-up size it (suc i) n before in let v = f.parcels in omega (arith, w.parcels-few)

@@ -89,4 +89,4 @@ module _ (k : Kernel) (named : Named k) where
     jump-reaches i h c a b e =
         let g = rule.aimed i h c a b e in
         let f = labelled-is a b g.row g.start g.length (named.jump i c a b e) g.within g.label g.name in
-        subst (λ (f : Found). reach it c i a b f ≡ Good) (sym f) ((jump-reach c (address it g.row) (address it i) false).1 (omega (arith, g.not-below, g.not-above)))
+        subst (λ (f : Found). reach it c i a b f ≡ Good) (sym f) ((jump-reach c (address it g.row) (address it i) false).1 (omega (arith, g.not_below, g.not_above)))

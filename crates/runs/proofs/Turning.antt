@@ -51,7 +51,7 @@ module _ (rows : List ℕ) (room : ℕ) (free : Bool) (from : Run) (p₀ : List 
     pub counted : t.run.count + from.row ≡ from.count + t.run.row
 
   pub starts : {lent : ℕ} → Skimming rows room from lent → Along (record { run = from; more = true }) p₀
-  starts h = record { runs = record { rows_taken = 0; ran = (refl, refl) }; row_within = h.row-in; at_in = h.at_in; counted = omega arith }
+  starts h = record { runs = record { rows_taken = 0; ran = (refl, refl) }; row_within = h.row_within; at_in = h.at_in; counted = omega arith }
 
   pub goes : {t u : Turn} {p q : List ℕ} → Along t p → Turned rows room free t.run p u q → Along u q
   goes {t} {u} {p} {q} a (inl (e, k)) =
@@ -62,7 +62,7 @@ module _ (rows : List ℕ) (room : ℕ) (free : Bool) (from : Run) (p₀ : List 
         at_in = rw k.on (omega (arith, k.roomy, few));
         counted = rw k.on (omega (arith, a.counted));
       }
-  goes {t} {u} {p} {q} a (inr (e, d)) = rw (e, d) (record { runs = a.runs; row_within = a.row-in; at_in = a.at_in; counted = a.counted })
+  goes {t} {u} {p} {q} a (inr (e, d)) = rw (e, d) (record { runs = a.runs; row_within = a.row_within; at_in = a.at_in; counted = a.counted })
 
 -- ---- what is left to do
 abbrev going_on : Bool → ℕ

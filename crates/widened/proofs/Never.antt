@@ -74,7 +74,7 @@ module _ (rows names : List ℕ) (read : Passes read_verdict rows names) (only :
         (record {
           paired = only.paired;
           in_tail = tail;
-          has-twin = only.twin-or-full q tail (sym (ap is_entry same) ∙ s.short.entry) good (λ e. s.short.short (ap size same ∙ e));
+          has-twin = only.twin_or_full q tail (sym (ap is_entry same) ∙ s.short.entry) good (λ e. s.short.short (ap size same ∙ e));
           row-encodes = good;
         }))
         c
