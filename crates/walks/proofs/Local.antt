@@ -1,14 +1,14 @@
 -- A local array `[T; n]` that is lent as a `&κ' mut [T]` for a call, and comes back as room. It says nothing of the crate.
-use mathlib.Core.Path.{◌≡◌, refl}
+use mathlib.Core.Path.{refl}
 use Prim.Native.Nat.{ℕ}
 use mathlib.Core.List.{List, [], ◌∷◌}
 use lib.ListN.{length}
 use seplogic.Ra.Ura.{Ura}
-use seplogic.Ra.TreeShare.{full_share}
+use base.Fraction.{full_share}
 use mir.Syntax.{Lifetime, ty_array}
 use mir.Val.{Val}
 use base.Logic.{ent, sep, ex}
-use base.Fml.{Lft, GName, Fml, fsep, fat, froom, fdead, flent}
+use base.Fml.{Lft, GName, fsep, fat, froom, fdead, flent}
 use types.Logic.{Logic, sem}
 use types.Kit.{‵, later, ◌$◌, ◌∵◌, !, qed, by, move, keep, use1, use3, drop, rewrite, fsplit, fjoin, fpick, fpack, feq_l, await, updating, now as at_once, done}
 use types.SemTy.{cells, Arr}
@@ -18,7 +18,7 @@ use denote.Laws.{Is, Makes}
 use denote.Memory.{cell_at, lone, part_at, mem, shares, part_of}
 use denote.Array.{Array, array_val, Array-Makes}
 use denote.ArrayMemory.{Single, Array-apart, Array-whole}
-use denote.Slice.{slice_val, MutSlice, Room, finally}
+use denote.Slice.{Room, finally}
 use denote.Lend.{Held, Lent, lends_slice, slice_back}
 use denote.Index.{row, whole_out, whole_in}
 use denote.Steps.{owned}

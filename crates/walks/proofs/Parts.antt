@@ -13,10 +13,10 @@ use mathlib.Core.Bool.{Bool, true, false, not}
 use mathlib.Core.List.{List, [], ◌∷◌}
 use lib.Dec.{T as Holds}
 use seplogic.Ra.Ura.{Ura}
-use mir.Syntax.{Name, Fn, Local, local, Ty, ty_unit, Place, Opd as Operand, Body, skip, seq, assign, call, block, loop, cond, switch, exit, return, w64}
+use mir.Syntax.{Callee, Fn, Local, local, Ty, ty_unit, Place, Opd as Operand, Body, skip, seq, assign, call, block, loop, cond, switch, exit, return, unreachable, call_v, lend_static, w64}
 use mir.Val.{Val, vbool, vint, vunit}
-use base.Logic.{SProp, ent, sep, emp, id⊢}
-use base.Fml.{Fml, ftrue, fsep, flft}
+use base.Logic.{ent, emp, id⊢}
+use base.Fml.{flft}
 use prog.Wp.{Env, Calls, Loops}
 use types.Logic.{Logic}
 use sound.WpLaws.{FmC}
@@ -43,7 +43,7 @@ use denote.Triple.End.{Kepts, Fins, lasts_of}
 use denote.Triple.Clauses.{Ended, Clauses, Lasts, at_exit, lasts}
 use denote.Triple.Call.{calls_at, calls_at_last}
 use denote.Triple.Walked.{Stays, Fit, has_of, walk_of}
-use Rattle.walks.proofs.Walk.{ContractOf, WalkAt, begins, calls-met, ends, beside}
+use Rattle.walks.proofs.Walk.{ContractOf, WalkAt, begins, ends, beside}
 
 -- ---- plain values
 pub record Value (R : RattleType) : Type 2 where
@@ -94,6 +94,9 @@ second (cond c a b) = skip
 second (switch c arms) = skip
 second (exit n) = skip
 second return = skip
+second unreachable = skip
+second (call_v g σ xs d) = skip
+second (lend_static p τ c) = skip
 
 -- how a test came out
 pub held : (b : Bool) → Holds b → b ≡ true
@@ -197,7 +200,7 @@ module _ {M : Type 1} {𝓤 : Ura M} {K : Type 0} (𝓛 : Logic 𝓤) (t : K) (T
         owned_whole (raw (alive 𝓛 T.signature y.0.0 y.0.1)) t (types_at T.signature.params y.0.0) y.0.3 y.0.4 Γ $
         use2 𝓛 (raw ((ContractOf 𝓛 T c).pre y)) (beside 𝓤 (on_entry 𝓛 T.signature y.0.0 y.0.1 y.0.3 y.0.4) ((c y.0.0 y.0.3).requires y.1) asks) $ s)
 
-    module _ {Γ : List (Item 𝓤)} {E : Env 𝓤 H} {C : Calls 𝓤 H} {Λ : Loops 𝓤 H} {q : Post 𝓤 H} {f : Name} {xs : List Operand} {d : Place} (fm : FmC 𝓤 H 𝓛.laws C) (known : Triple 𝓤 (C f) (ContractOf 𝓛 T c)) (asks : ent 𝓤 (emp 𝓤) ((c y.0.0 y.0.3).requires y.1))
+    module _ {Γ : List (Item 𝓤)} {E : Env 𝓤 H} {C : Calls 𝓤 H} {Λ : Loops 𝓤 H} {q : Post 𝓤 H} {f : Callee} {xs : List Operand} {d : Place} (fm : FmC 𝓤 H 𝓛.laws C) (known : Triple 𝓤 (C f) (ContractOf 𝓛 T c)) (asks : ent 𝓤 (emp 𝓤) ((c y.0.0 y.0.3).requires y.1))
         (os : Opds K 𝓛 (raw ((ContractOf 𝓛 T c).pre y) ∷ Γ) E xs ((ContractOf 𝓛 T c).args y)) where
       pub calls : {rest : Body} → On Γ (λ v. lands C Λ E d v rest q) → Seq K 𝓛 (Pre y Γ) (runs C Λ E (seq (call f xs d) rest) q)
       calls {rest} k = enters Γ asks $ calls_at t fm (ContractOf 𝓛 T c) known y os (after Γ (λ v. lands C Λ E d v rest q) (λ v. tt) k)

@@ -13,8 +13,8 @@ use mathlib.Core.Option.{some}
 use mathlib.Core.List.{List, [], ◌∷◌}
 use lib.Dec.{T as Holds}
 use seplogic.Ra.Ura.{Ura}
-use seplogic.Ra.TreeShare.{full_share}
-use mir.Syntax.{Name, Fn, Ty, Place, place, copy, Opd as Operand, Body, seq, call, assign, Rv as RValue, Sym, Tys, ty_struct, field}
+use base.Fraction.{full_share}
+use mir.Syntax.{Callee, Fn, Ty, Place, place, copy, Opd as Operand, Body, seq, call, assign, Rv as RValue, Sym, Tys, ty_struct, field}
 use mir.Val.{Val, WT, has_ty, vstruct, Vals as Fields}
 use mir.Fields.{get_v, set_v}
 use base.Logic.{SProp, ent, sep, emp, id⊢, via, mono∗, mono_r, comm∗, fst∗, emp∗}
@@ -105,7 +105,7 @@ begins 𝓛 T c hs e C Λ y s = qed 𝓛 _ (enter ! C Λ e _ _ $ s)
 module _ {M : Type 1} {𝓤 : Ura M} {K : Type 0} (𝓛 : Logic 𝓤) {Γ : List (Item 𝓤)} (t : K) (T : Ended) (c : Clauses 𝓤 T) where
   open 𝓛 use {H}
 
-  module _ {E : Env 𝓤 H} {C : Calls 𝓤 H} {Λ : Loops 𝓤 H} {q : Post 𝓤 H} {f : Name} {xs : List Operand} {d : Place} {rest : Body} where
+  module _ {E : Env 𝓤 H} {C : Calls 𝓤 H} {Λ : Loops 𝓤 H} {q : Post 𝓤 H} {f : Callee} {xs : List Operand} {d : Place} {rest : Body} where
     pub calls-met : FmC 𝓤 H 𝓛.laws C → Triple 𝓤 (C f) (ContractOf 𝓛 T c) → (y : (ContractOf 𝓛 T c).Ghost) → ent 𝓤 (emp 𝓤) ((c y.0.0 y.0.3).requires y.1) → Opds K 𝓛 (raw ((ContractOf 𝓛 T c).pre y) ∷ Γ) E xs ((ContractOf 𝓛 T c).args y)
         → ((v : Val) (r : Res T.signature y.0.0) (ws : Lasts T y.0.0 y.0.3)
         → Seq K 𝓛 (raw ((c y.0.0 y.0.3).ensures y.1 r (at_exit T y.0.0 y.0.3 ws)) ∷ ‵ ((type_at T.signature.result y.0.0).own_val r (v ∷ [])) ∷ raw (alive 𝓛 T.signature y.0.0 y.0.1) ∷ ‵ (lasts T y.0.0 y.0.3 ws) ∷ Γ) (lands C Λ E d v rest q))
@@ -125,7 +125,7 @@ module _ {M : Type 1} {𝓤 : Ura M} {K : Type 0} (𝓛 : Logic 𝓤) {Γ : List
         suffices t (Ending 𝓛 T hs c y v r ws) (ends_at 𝓛 T hs c y v r ws fits) $
         suffices t (on_exit 𝓛 T hs y.0.0 y.0.1 y.0.4 v r y.0.3 ws) (beside 𝓤 (on_exit 𝓛 T hs y.0.0 y.0.1 y.0.4 v r y.0.3 ws) ((c y.0.0 y.0.3).ensures y.1 r (at_exit T y.0.0 y.0.3 ws)) told) $ frame t $ s)
 
-module _ {M : Type 1} {𝓤 : Ura M} (𝓛 : Logic 𝓤) (𝓜 : Model 𝓤 𝓛.H) (𝓡 : Running 𝓤 𝓛.H 𝓜) (env : Names) (k : Name) (e : Fn) where
+module _ {M : Type 1} {𝓤 : Ura M} (𝓛 : Logic 𝓤) (𝓜 : Model 𝓤 𝓛.H) (𝓡 : Running 𝓤 𝓛.H 𝓜) (env : Names) (k : Callee) (e : Fn) where
   open 𝓛 use {H}
 
   abbrev C : Calls 𝓤 H

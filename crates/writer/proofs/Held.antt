@@ -3,7 +3,7 @@
 --     writer_vals, writer_tells    a writer's machine value is told.        room_of, place_of    its fields' facts.        typed        the machine value has the struct's MIR type, at any lifetime: a local's erases it
 --     slice-of, writer_of  what a writer owns gives what its slice owns; and it is made of that
 --     writer_spent         the result names the writer's lifetime: nothing is said of a last list.        spent_had, writer_spent_goes      it is had for nothing; its law
---     writer_gave          the body has passed the borrow on for good, and has only what says its last list.        gave_had, writer_gave_goes      it is had of that; its law
+--     writer_gave          the body has passed the borrow on for good, and has only what says its last list, and the borrow as it came back.        GaveParcels, gave_had, writer_gave_goes      it is had of that; its law
 -- Assumes `Logic`.
 use mathlib.Core.Path.{◌≡◌, refl, sym, ap, subst}
 use Prim.Native.Nat.{ℕ, ◌<◌, ◌^◌}
@@ -24,7 +24,7 @@ use denote.Exit.{Kept, yes, no}
 use denote.Ref.{MutBor, NamedLft}
 use denote.Signature.{Slot, plain, mut_slice, mut_slice_of, named_lft}
 use denote.Signature.Struct.{struct_at, in_struct, makes}
-use denote.Slice.{slice_val, MutSlice, Room, finally}
+use denote.Slice.{slice_val, MutSlice, Room}
 use denote.Steps.{only, nothing}
 use denote.Struct.Laws as LL
 use denote.Struct.Rest.{all_own, own_open}
@@ -125,5 +125,9 @@ module _ {M : Type 1} {𝓤 : Ura M} (𝓛 : Logic 𝓤) where
     pub spent_had : (h : Writer) (s : Val) → h.at < 2 ^ 64 → ent 𝓤 (emp 𝓤) (sem 𝓛 (writer_spent.has (κ, tt) h (tt, tt) (writer_val s h.at ∷ [])))
     spent_had h s fits = whole (λ _. ftrue) s h.at fits
 
-    pub gave_had : (h : Writer) (s : Val) (zs : List ℕ) → h.at < 2 ^ 64 → ent 𝓤 (sem 𝓛 (finally u16 h.parcels.name zs)) (sem 𝓛 (writer_gave.has (κ, tt) h (zs, tt) (writer_val s h.at ∷ [])))
-    gave_had h s zs fits = whole (λ _. finally u16 h.parcels.name zs) s h.at fits
+    -- what is had of a slice that the body has passed on: what says its last list, and the borrow, closed again
+    abbrev pub GaveParcels : Writer → List ℕ → Fml
+    GaveParcels h zs = (gave_slice {n = 1} (0 ∷ []) tt (plain (λ _. u16))).has (κ, tt) h.parcels zs (slice_of h.parcels ∷ [])
+
+    pub gave_had : (h : Writer) (s : Val) (zs : List ℕ) → h.at < 2 ^ 64 → ent 𝓤 (sem 𝓛 (GaveParcels h zs)) (sem 𝓛 (writer_gave.has (κ, tt) h (zs, tt) (writer_val s h.at ∷ [])))
+    gave_had h s zs fits = whole (λ _. GaveParcels h zs) s h.at fits

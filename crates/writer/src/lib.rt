@@ -67,12 +67,20 @@ fn patch<'a>(w: Writer<'a>, place: usize, words: [u16; 3]) -> usize
     w.at
 }
 
+// A writer that has gone on at `at` by the first n of six words.
+fn ahead<'a>(parcels: &'a mut [u16], at: usize, words: [u16; 6], n: usize) -> Writer<'a>
+    requires { (n ≤ 6) × (at + n ≤ length parcels.old) }
+    ensures { result ≡ appended (record { parcels = parcels.entry; at = at }) words n }
+{
+    append(open(parcels, at), words, n)
+}
+
 // A writer that goes on at `at` appends the first n of six words. The answer is its next free place.
 pub fn emit(parcels: &mut [u16], at: usize, words: [u16; 6], n: usize) -> usize
     requires { (n ≤ 6) × (at + n ≤ length parcels.old) }
     ensures { (result ≡ at + n) × (parcels.new ≡ sets parcels.old at (take n words)) }
 {
-    let w = append(open(parcels, at), words, n);
+    let w = ahead(parcels, at, words, n);
     w.at
 }
 
