@@ -44,6 +44,7 @@ pub fn put_fields(out: &mut [u8], at: usize, numbers: &[u32]) -> usize
 }
 
 // A row's line; the place after it.
+#[tactic(auto, unfolding(crate::specs::RowText::row_line))]
 fn put_row(out: &mut [u8], at: usize, place: u64, row: &[u32]) -> usize
     requires { (length row.now ≡ 17) × (at + 378 ≤ length out.old) }
     ensures { Puts out.old at (row_line place row.now) out.new result }
