@@ -58,6 +58,7 @@ fn put_plain(out: &mut [u8], at: usize, row: &[u32]) -> usize
 }
 
 // A row's line; the place after it.
+#[tactic(auto, unfolding(crate::specs::ItemText::item_line))]
 fn put_item(out: &mut [u8], at: usize, row: &[u32], names: &[u8]) -> usize
     requires { (length row.now ≡ 17) × (at + 358 + length names.now ≤ length out.old) }
     ensures { Puts out.old at (item_line names.now row.now) out.new result }
