@@ -20,7 +20,7 @@ use Rattle.items.specs.declared.Item.TheVariants as item
 use Rattle.computes.specs.declared.Made.{Made}
 use Rattle.computes.specs.declared.Made.TheVariants as made
 use Rattle.computes.proofs.Ranged.{RangedCount}
-use Rattle.bounds.specs.Tables.{lookup, at}
+use Rattle.bounds.specs.Tables.{lookup}
 use Rattle.bounds.specs.Bounds.{never, filled, fields, bounds_of}
 use Rattle.bounds.specs.Checks.{check_of}
 use Rattle.rows.specs.declared.Beside.{Beside}

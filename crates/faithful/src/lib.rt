@@ -1,3 +1,2 @@
 // Definitions and theorems alone: the word of each row is faithful to its fields.
 #![tactic(auto)]
-
