@@ -61,7 +61,7 @@ module _ (row : List ℕ) where
       → filled 16 (lookup kind (varying row ++ fields) (never ∷ [])) ≡ three x y z
       → ((names : ℕ) → inside kind (at row 1) (at row 2) (at row 3) names ≡ true) → Simple kind
       → (at row 1 < suc a → at row 2 < suc b → at row 3 < suc c → form_of (at-kind kind) ≡ f) → Line kind a b c f
-  unfolding bounds_of item_of
+  unfolding bounds_of item_of fields
   line_in kind x y z a b c k p q r bounds unnamed s f =
       record {
         x = x;
