@@ -142,7 +142,6 @@ fn immediate(index: u8, modifier: u8, value: u32) -> Glance
 }
 
 // What a row shows at a glance.
-#[tactic(auto, unfolding(crate::specs::Glances::access_in, bounds::specs::Bounds::fields, encode::specs::Encoding::form_of, crate::specs::Glances::immediate_in, rows::specs::Fields::instruction_of, crate::specs::Glances::jump_seen, encode::specs::Layouts::layout_of, rows::specs::Fields::others, rows::specs::Fields::scalars, combined::specs::Single::single_word, combined::specs::Single::third_of, rows::specs::Fields::transfers))]
 pub fn seen(row: &[u32]) -> Glance
     requires { length row.now ≡ 17 }
     ensures { Right row.now result }

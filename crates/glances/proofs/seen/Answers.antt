@@ -1,5 +1,5 @@
 -- Each arm is right about its row: its kind's bounds hold the line's limits, and its form is the line's word.
-use Rattle.std.proofs.Common.{◌≡◌, refl, sym, ap, ◌∙◌, true, false, cond, ◌%◌, ℤ, pos, negsuc, arith, to_z-of_z, w32}
+use Rattle.std.proofs.Common.{refl, ap, ◌∙◌, true, false, cond, ◌%◌, ℤ, pos, negsuc, arith, to_z-of_z, w32}
 use borrow.Author.Rules.{sfits_of}
 use Rattle.fields.specs.Pack.{pack}
 use Rattle.signs.specs.Signs.{folded, within}
