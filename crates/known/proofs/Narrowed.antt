@@ -1,6 +1,5 @@
 -- Where some bits of a word are known, only the lines whose forms are not apart from them are left of the table.
-use Prim.Native.Nat.{ℕ, ◌<◌}
-use native.Mathlib.Omega.{arith}
+use Prim.Native.Nat.{ℕ}
 use mathlib.Core.Path.{◌≡◌, refl}
 use mathlib.Core.Bool.{Bool, true, false, cond}
 use mathlib.Core.List.{List, [], ◌∷◌}
@@ -8,7 +7,6 @@ use borrow.Author.Tests.{eq-eqb}
 use Rattle.fields.specs.Pack.{Field, fixed, field}
 use Rattle.fields.specs.Matching.{matches, apart}
 use Rattle.fields.proofs.Matching.{not_both, is_false}
-use Rattle.bounds.proofs.Lookups.{NotIn}
 use Rattle.known.specs.Table.{Line, first_line, nothing, table, known_in}
 
 -- the lines that are left
@@ -32,12 +30,3 @@ narrowed {A} fs other (l ∷ ls) word m = go (apart fs l.form) refl (narrowed fs
 pub within : (hi lo k word : ℕ) → field hi lo word ≡ k → known_in word ≡ first_line nothing (kept (fixed hi lo k ∷ []) table) word
 unfolding known_in
 within hi lo k word e = narrowed (fixed hi lo k ∷ []) nothing table word (rw (eq-eqb _ _ e))
-
--- a number below 8 that is none of 0 to 6, as a default arm is told it
-abbrev pub first_seven : List (ℕ × Unit {0})
-first_seven = (0, tt) ∷ (1, tt) ∷ (2, tt) ∷ (3, tt) ∷ (4, tt) ∷ (5, tt) ∷ (6, tt) ∷ []
-
-pub is_seven : (k : ℕ) → k < 8 → NotIn k first_seven (Unit {0}) → k ≡ 7
-is_seven k h r =
-    let past : 2 < k = omega (arith, r.0.0.0.0.1, r.0.0.0.0.0.1, r.0.0.0.0.0.0.1) in
-    omega (arith, r.1, r.0.1, r.0.0.1, r.0.0.0.1)

@@ -9,7 +9,6 @@ use crate::moves::row_if;
 use crate::{Known, forms};
 
 // 011: 5a and 5b.
-#[tactic(auto, unfolding(crate::specs::Table::table))]
 pub fn moved(w: u64) -> Known
     requires { field 47 45 w ≡ 3 }
     ensures { result ≡ known_in w }
@@ -24,7 +23,6 @@ pub fn moved(w: u64) -> Known
 }
 
 // 100: 16a, 15b and 3c.
-#[tactic(auto, unfolding(crate::specs::Table::table))]
 pub fn stored(w: u64) -> Known
     requires { field 47 45 w ≡ 4 }
     ensures { result ≡ known_in w }
@@ -51,7 +49,6 @@ pub fn stored(w: u64) -> Known
 }
 
 // 101: 15a.
-#[tactic(auto, unfolding(crate::specs::Table::table))]
 pub fn offset(w: u64) -> Known
     requires { field 47 45 w ≡ 5 }
     ensures { result ≡ known_in w }
@@ -68,7 +65,6 @@ pub fn offset(w: u64) -> Known
 }
 
 // 000000: 21a, 21c and 2a.
-#[tactic(auto, unfolding(crate::specs::Table::table))]
 fn first_opcodes(w: u64) -> Known
     requires { field 47 42 w ≡ 0 }
     ensures { result ≡ known_in w }
@@ -88,7 +84,6 @@ fn first_opcodes(w: u64) -> Known
 }
 
 // 000001: 8a.
-#[tactic(auto, unfolding(crate::specs::Table::table))]
 fn jump(w: u64) -> Known
     requires { field 47 42 w ≡ 1 }
     ensures { result ≡ known_in w }
@@ -103,7 +98,6 @@ fn jump(w: u64) -> Known
 }
 
 // 000011: 17a, and the loop starts, 12a.
-#[tactic(auto, unfolding(crate::specs::Table::table))]
 fn loaded(w: u64) -> Known
     requires { field 47 42 w ≡ 3 }
     ensures { result ≡ known_in w }
@@ -125,7 +119,6 @@ fn loaded(w: u64) -> Known
 }
 
 // 000100: a data register loaded or stored.
-#[tactic(auto, unfolding(crate::specs::Table::table))]
 fn addressed(w: u64) -> Known
     requires { field 47 42 w ≡ 4 }
     ensures { result ≡ known_in w }
@@ -142,7 +135,6 @@ fn addressed(w: u64) -> Known
 }
 
 // 000101: 19a and 18a.
-#[tactic(auto, unfolding(crate::specs::Table::table))]
 fn modified(w: u64) -> Known
     requires { field 47 42 w ≡ 5 }
     ensures { result ≡ known_in w }
@@ -162,7 +154,6 @@ fn modified(w: u64) -> Known
 }
 
 // 000110: 25a.
-#[tactic(auto, unfolding(crate::specs::Table::table))]
 fn call(w: u64) -> Known
     requires { field 47 42 w ≡ 6 }
     ensures { result ≡ known_in w }
@@ -174,7 +165,6 @@ fn call(w: u64) -> Known
 }
 
 // 000: the forms with an opcode of eight bits.
-#[tactic(auto, unfolding(crate::specs::Table::table))]
 pub fn by_opcode(w: u64) -> Known
     requires { field 47 45 w ≡ 0 }
     ensures { result ≡ known_in w }

@@ -31,7 +31,6 @@ pub struct Held {
 }
 
 // What a word of 48 bits stands for at its front, by its highest bits.
-#[tactic(auto, unfolding(crate::specs::Table::table))]
 pub fn known_in(w: u64) -> Known
     ensures { result ≡ known_in w }
 {

@@ -50,7 +50,6 @@ fn memory_fine(k: Held, u: u32, g: u32, d: u32, code: u32) -> bool
 }
 
 // 001: the dual move, 1a.
-#[tactic(auto, unfolding(crate::specs::Table::table))]
 pub fn dual(w: u64) -> Known
     requires { field 47 45 w ≡ 1 }
     ensures { result ≡ table.known_in w }
@@ -73,7 +72,6 @@ pub fn dual(w: u64) -> Known
 }
 
 // 010: the pre-modify access, 3b, and the memory move, 3a. 3b first: its words look like 3a's.
-#[tactic(auto, unfolding(crate::specs::Table::table))]
 pub fn memory(w: u64) -> Known
     requires { field 47 45 w ≡ 2 }
     ensures { result ≡ table.known_in w }
