@@ -6,8 +6,10 @@ mod forms;
 mod instructions;
 mod print;
 
-fn main() {
-    forms::all();
-    instructions::conditions();
-    instructions::all();
+use std::io;
+
+fn main(rt: HostRuntime) -> io::Result<()> {
+    forms::all(&rt)?;
+    instructions::conditions(&rt)?;
+    instructions::all(&rt)
 }

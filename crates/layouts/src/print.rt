@@ -1,74 +1,68 @@
 // Lines of output: words in hex.
 use encode::Form;
-use libc::STDOUT_FILENO;
-
-// The end of a line.
-fn end() {
-    io::write_all(STDOUT_FILENO, b"\n");
-}
+use std::io;
 
 // A line with a name.
-pub fn named(name: &[u8]) {
-    io::write_all(STDOUT_FILENO, name);
-    end();
+pub fn named(rt: &HostRuntime, name: &str) -> io::Result<()> {
+    println!(rt; "{name}")
 }
 
 // A word of three parcels.
-pub fn three(word: u64) {
-    io::print_hex(STDOUT_FILENO, word, 12);
-    end();
+pub fn three(rt: &HostRuntime, word: u64) -> io::Result<()> {
+    println!(rt; "{word:012x}")
 }
 
 // A word of two parcels.
-pub fn two(word: u64) {
-    io::print_hex(STDOUT_FILENO, word, 8);
-    end();
+pub fn two(rt: &HostRuntime, word: u64) -> io::Result<()> {
+    println!(rt; "{word:08x}")
 }
 
 // A word of one parcel.
-pub fn one(word: u64) {
-    io::print_hex(STDOUT_FILENO, word, 4);
-    end();
+pub fn one(rt: &HostRuntime, word: u64) -> io::Result<()> {
+    println!(rt; "{word:04x}")
 }
 
 // A code in two digits.
-pub fn code(c: u64) {
-    io::print_hex(STDOUT_FILENO, c, 2);
-    end();
+pub fn code(rt: &HostRuntime, c: u64) -> io::Result<()> {
+    println!(rt; "{c:02x}")
 }
 
 // A parcel.
-fn parcel(p: u16) {
-    io::print_hex(STDOUT_FILENO, p as u64, 4);
+fn parcel(rt: &HostRuntime, p: u16) -> io::Result<()> {
+    print!(rt; "{p:04x}")
+}
+
+// The end of a line.
+fn end(rt: &HostRuntime) -> io::Result<()> {
+    println!(rt;)
 }
 
 // The six parcels of the leaf return.
-fn leaf() {
+fn leaf(rt: &HostRuntime) -> io::Result<()> {
     let encoded = encode::cut_form(Form::Leaf);
     let p = encoded.places;
-    six(p);
-    end();
+    six(rt, p)?;
+    end(rt)
 }
 
 // Six parcels.
-fn six(p: [u16; 6]) {
-    parcel(p[0]);
-    parcel(p[1]);
-    parcel(p[2]);
-    parcel(p[3]);
-    parcel(p[4]);
-    parcel(p[5]);
+fn six(rt: &HostRuntime, p: [u16; 6]) -> io::Result<()> {
+    parcel(rt, p[0])?;
+    parcel(rt, p[1])?;
+    parcel(rt, p[2])?;
+    parcel(rt, p[3])?;
+    parcel(rt, p[4])?;
+    parcel(rt, p[5])
 }
 
 // A kind's number and what an instruction of it comes to.
-pub fn form(kind: u64, f: Form) {
-    io::print_decimal(STDOUT_FILENO, kind);
-    io::write_all(STDOUT_FILENO, b"\t");
+pub fn form(rt: &HostRuntime, kind: u64, f: Form) -> io::Result<()> {
+    print!(rt; "{kind}\t")?;
     match f {
-        Form::Short(w) => one(w),
-        Form::Pair(w) => two(w),
-        Form::Word(w) => three(w),
-        Form::Leaf => leaf(),
-        Form::Refused(_) => named(b"refused"),
+        Form::Short(w) => one(rt, w),
+        Form::Pair(w) => two(rt, w),
+        Form::Word(w) => three(rt, w),
+        Form::Leaf => leaf(rt),
+        Form::Refused(_) => named(rt, "refused"),
     }
 }
