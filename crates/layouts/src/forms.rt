@@ -135,7 +135,7 @@ fn loop12a(rt: &HostRuntime) -> io::Result<()> {
 }
 
 fn register_loop12a(rt: &HostRuntime) -> io::Result<()> {
-    named(rt, "register_loop12a")?;
+    named(rt, "registerLoop12a")?;
     three(rt, register_loop_word(0, false, 0))?;
     three(rt, register_loop_word(0x7f, false, 0))?;
     three(rt, register_loop_word(0, true, 0))?;
