@@ -1,6 +1,6 @@
 -- The row that a refused build names: by the order of its judgement.
 use mathlib.Core.Path.{◌≡◌, refl, sym, ap, ◌∙◌, subst}
-use mathlib.Core.Logic.{inl, inr, ⊎_elim}
+use mathlib.Core.Logic.{inl, inr}
 use mathlib.Core.Bool.{Bool, true, false, cond}
 use mathlib.Core.List.{List, [], ◌∷◌}
 use Prim.Native.Nat.{ℕ, ◌<◌}
@@ -15,8 +15,8 @@ use Rattle.refusals.specs.declared.Refusal.TheVariants.{RowSlice, UnclosedLoop}
 use Rattle.refusals.specs.declared.Verdict.{Verdict}
 use Rattle.refusals.specs.declared.Verdict.TheVariants.{Good, Refused}
 use Rattle.refusals.specs.declared.Judged.{Judged}
-use Rattle.refusals.specs.Numbers.{alone, counted, told_of, in_row, answer_in, answer_of, answered}
-use Rattle.refusals.specs.Order.{when, first_of, said_of_row, first_in, foremost}
+use Rattle.refusals.specs.Numbers.{alone, in_row, answer_in, answered}
+use Rattle.refusals.specs.Order.{when, said_of_row, first_in, foremost}
 use Rattle.refusals.proofs.Order.{refused-good, first-all, first-at, foremost-here, foremost-on}
 use Rattle.refusals.proofs.Numbered.{without_row}
 use Rattle.rows.specs.Rows.{well_formed}
