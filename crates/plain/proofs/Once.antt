@@ -1,11 +1,9 @@
 -- The places that the second walk writes are 0, 1, .., one after the other: each once.
-use mathlib.Core.Path.{◌≡◌, refl, sym, ap, ap₂, ◌∙◌}
+use mathlib.Core.Path.{◌≡◌, refl, ap, ap₂, ◌∙◌}
 use mathlib.Core.List.{◌++◌, ◌∷◌}
 use Prim.Native.Nat.{ℕ, zero, suc, ◌+◌}
 use native.Mathlib.Omega.{arith}
-use lib.ListN.{length}
 use Rattle.places.specs.Items.{Kernel, size, place}
-use Rattle.places.specs.Left.{left}
 use Rattle.places.proofs.Emitted.{emits}
 use Rattle.plain.specs.Once.{from, writes}
 

@@ -19,19 +19,17 @@ use Rattle.coded.specs.declared.Coded.{Coded}
 use Rattle.coded.specs.declared.Coded.TheVariants as coded
 use Rattle.coded.specs.declared.Coded.TheVariants.{Instruction, Label, Jump, LoopBegin, LoopEnd}
 use Rattle.places.specs.declared.Rooms.{Rooms}
-use Rattle.places.specs.Items.{Kernel, kernel_of, row_at, row_count, about, is_label, is_jump, total, place, nest, label_width, jump_width}
+use Rattle.places.specs.Items.{Kernel, kernel_of, row_at, row_count, about, is_label, is_jump, total, nest, label_width, jump_width}
 use Rattle.places.specs.Verdict.{faults, verdict_at, taken}
 use Rattle.places.specs.Left.{Lent, left}
 use Rattle.prefixes.proofs.Names.{row_fine}
 use Rattle.prefixes.proofs.Traits.{one_way}
 use Rattle.prefixes.proofs.Passing.{Fits, fits}
-use Rattle.tables.specs.Tables.{KernelFine}
 use Rattle.tables.specs.Held.{HoldsLabels}
 use Rattle.tables.proofs.Held.{labels-held}
 use Rattle.tables.proofs.Lookups.{lookup-there, entries_in}
 use Rattle.ends.specs.Ends.{Closed}
 use Rattle.plain.specs.declared.first.Before.{Before}
-use Rattle.plain.specs.declared.first.Placed.{Placed}
 use Rattle.plain.specs.Plain.{before_row, passed, PassFine, check_at, CheckFine, EnterFine, Entered, labels_at, jumps_at, unclosed, late_of, past_of, Passed, rows_judged, RoomingOf, Walked}
 use Rattle.plain.proofs.Entries.{label-left, jump-left}
 

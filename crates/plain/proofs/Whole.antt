@@ -36,7 +36,7 @@ use Rattle.checks.proofs.Rooming.{rooming-of}
 use Rattle.plain.specs.declared.first.Before.{Before}
 use Rattle.plain.specs.declared.first.Placed.{Placed}
 use Rattle.plain.specs.Once.{written}
-use Rattle.plain.specs.Plain.{before_row, labels_at, jumps_at, rows_judged, RoomingOf, Walked, WalkedAll, tables, aims, Writable, Wiped, Concluding, Ended, Concluded}
+use Rattle.plain.specs.Plain.{labels_at, jumps_at, rows_judged, RoomingOf, Walked, WalkedAll, tables, aims, Wiped, Concluding, Ended, Concluded}
 use Rattle.plain.proofs.Asked.{fit, open_late, jumped, late, early, all-good}
 use Rattle.plain.proofs.Walking.{labels-long, jumps-long}
 use Rattle.plain.proofs.Written.{walked, walked-is, walked-rest}

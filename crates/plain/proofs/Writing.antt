@@ -29,10 +29,10 @@ use Rattle.coded.specs.declared.Coded.{Coded}
 use Rattle.coded.specs.declared.Coded.TheVariants as coded
 use Rattle.coded.specs.declared.Coded.TheVariants.{Instruction, Label, Jump, LoopBegin, LoopEnd}
 use Rattle.places.specs.declared.Rooms.{Rooms}
-use Rattle.places.specs.Items.{Kernel, about, is_end, size, is_label, total, place, address}
+use Rattle.places.specs.Items.{Kernel, is_end, size, place}
 use Rattle.places.specs.Looking.{Found, at, nothing, newest, opener, closer, labelled}
 use Rattle.places.specs.Verdict.{reach, reaches, jump_offset, loop_offset, loop_row}
-use Rattle.places.specs.Left.{left, jump_parcels, loop_parcels}
+use Rattle.places.specs.Left.{left, jump_parcels}
 use Rattle.prefixes.proofs.Tests.{and_both}
 use Rattle.prefixes.proofs.Traits.{closes-end}
 use Rattle.prefixes.proofs.Totals.{total-up}
