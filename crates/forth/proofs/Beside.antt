@@ -7,7 +7,6 @@ use mathlib.Core.List.{List, ◌∷◌, ◌++◌}
 use lib.Dec.{eqb}
 use lib.ListN.{length}
 use borrow.Author.Tests.{ne_eqb, eqb-true}
-use Rattle.items.specs.declared.Compute.{Compute}
 use Rattle.items.specs.declared.OptionalCompute.{OptionalCompute}
 use Rattle.items.specs.declared.OptionalCompute.TheVariants as optional
 use Rattle.encode.specs.Registers.{writes}

@@ -8,7 +8,6 @@ use Rattle.fields.specs.Pack.{Field, pack}
 use Rattle.fields.specs.Parcels.{cut}
 use Rattle.refusals.specs.declared.Verdict.TheVariants.{Good}
 use Rattle.refusals.proofs.Order.{AllGood}
-use Rattle.items.specs.declared.Item.{Item}
 use Rattle.items.specs.declared.Item.TheVariants as item
 use Rattle.items.specs.declared.VisaInstruction.{VisaInstruction}
 use Rattle.encode.specs.Layouts.{layout_of}

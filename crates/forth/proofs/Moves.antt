@@ -15,7 +15,6 @@ use Rattle.fields.specs.Parcels.{cut}
 use Rattle.fields.specs.Matching.{filled_by}
 use Rattle.fields.proofs.Matching.{both}
 use Rattle.refusals.proofs.Order.{AllGood, good-when}
-use Rattle.items.specs.declared.Compute.{Compute}
 use Rattle.items.specs.declared.DataAccess.{DataAccess}
 use Rattle.items.specs.declared.MemoryAccess.{MemoryAccess}
 use Rattle.items.specs.declared.Item.TheVariants as item

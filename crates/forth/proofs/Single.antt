@@ -15,7 +15,6 @@ use Rattle.refusals.specs.Order.{first}
 use Rattle.refusals.proofs.Order.{good-when, good-first}
 use Rattle.items.specs.declared.Compute.{Compute}
 use Rattle.computes.specs.Compute.{multi, made_single, made_multi, multi_refusals, made_by, opcode_of}
-use Rattle.computes.specs.declared.Made.{Made}
 use Rattle.computes.specs.declared.Made.TheVariants as made
 use Rattle.encode.specs.Layouts.{layout_of}
 use Rattle.bounds.specs.Bounds.{never, form, word, filled, fields, is_compute, compute}
