@@ -15,7 +15,6 @@ use Rattle.fields.specs.Faithful.{Spells}
 use Rattle.fields.specs.Matching.{matches, operands, found, shape, raised, apart}
 use Rattle.fields.proofs.Matching.{both, is_false, reads-matches, reads-found, not_both, same_shape, same-found, matches-raised, found-raised}
 use Rattle.encode.proofs.Laid.{Wide, one, two, three}
-use Rattle.bounds.specs.Tables.{at}
 use Rattle.known.specs.declared.Known.{Known}
 use Rattle.known.specs.Table.{Line, first_line, known, nothing, line3b, transfers, others, few_parcels, computing, table, known_in}
 use Rattle.known.specs.Window.{window}
@@ -28,6 +27,7 @@ pub data In {A : Type 0} (l : A) : List A → Type 0 where
   later : {x : A} {ls : List A} → In l ls → In l (x ∷ ls)
 
 in_left : {A : Type 0} {l : A} (xs ls : List A) → In l xs → In l (xs ++ ls)
+in_left [] ls i = elim i [ ]
 in_left (x ∷ xs) ls here = here
 in_left (x ∷ xs) ls (later i) = later (in_left xs ls i)
 
@@ -52,10 +52,12 @@ in_nth {A} other ls i h = go ls i (ltb-true i (length ls) h)
 -- what is apart from every line is no word of one; and where all lines are apart, a line's word is found at that line
 module _ {A : Type 0} (l : Line A) (word : ℕ) (m : matches l.form word ≡ true) where
   pub apart_in : (fs : List Field) (ls : List (Line A)) → In l ls → apart_from fs ls ≡ true → matches fs word ≡ false
+  apart_in fs [] i a = elim i [ ]
   apart_in fs (x ∷ ls) here a = is_false _ (λ k. not_both fs l.form word (both (apart fs l.form) (apart_from fs ls) a).0 k m)
   apart_in fs (x ∷ ls) (later i) a = apart_in fs ls i (both (apart fs x.form) (apart_from fs ls) a).1
 
   pub first : (other : A) (ls : List (Line A)) → In l ls → all_apart ls ≡ true → first_line other ls word ≡ l.made (found l.form word)
+  first other [] i a = elim i [ ]
   first other (x ∷ ls) here a = rw m
   first other (x ∷ ls) (later i) a =
       let b = both (apart_from x.form ls) (all_apart ls) a in
