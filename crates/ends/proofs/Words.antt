@@ -7,7 +7,7 @@ use mathlib.Core.Logic.{⊎_elim}
 use mathlib.Core.Bool.{Bool, true, false}
 use mathlib.Core.List.{List, [], ◌∷◌}
 use lib.Dec.{eqb}
-use lib.IntN.{ℤ, pos, ◌-ℤ◌, +ℤ-neg_ℤ_cancel}
+use lib.IntN.{pos, ◌-ℤ◌, +ℤ-neg_ℤ_cancel}
 use borrow.Author.Tests.{eq-eqb, ne_eqb, eqb-true}
 use denote.Enum.Declared.{tag_of}
 use types.Run.{OneOf, miss}
@@ -20,7 +20,6 @@ use Rattle.refusals.specs.Order.{first}
 use Rattle.refusals.proofs.Order.{last_one}
 use Rattle.items.specs.declared.LoopCount.{LoopCount}
 use Rattle.items.specs.declared.LoopMode.{LoopMode}
-use Rattle.encode.specs.declared.Form.{Form}
 use Rattle.encode.specs.declared.Form.TheVariants.{Leaf}
 use Rattle.encode.specs.Encoding.{form_verdict, loop_form}
 use Rattle.coded.specs.contracts.Coded.{the_type}

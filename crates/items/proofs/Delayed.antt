@@ -1,6 +1,6 @@
 -- Any instruction but a `JumpRelative` (13) is no delayed jump.
 use mathlib.Core.Path.{◌≡◌, refl}
-use mathlib.Core.Bool.{false, not}
+use mathlib.Core.Bool.{false}
 use mathlib.Core.List.{List, [], ◌∷◌}
 use Prim.Native.Nat.{ℕ}
 use denote.Enum.Declared.{tag_of}

@@ -1,6 +1,6 @@
 -- A number that a register or a count is made of is kept whole: it lies below its place's bound, so the remainder that makes a byte of it, or 16 bits,
 -- changes nothing.
-use Prim.Native.Nat.{ℕ, ◌+◌, ◌*◌, ◌%◌, ◌≤◌, ◌<◌}
+use Prim.Native.Nat.{ℕ, ◌+◌, ◌*◌, ◌<◌}
 use mathlib.Core.List.{List, [], ◌∷◌}
 use mathlib.Core.Bool.{Bool, true, false, cond}
 use mathlib.Core.Path.{◌≡◌, refl}
@@ -10,7 +10,7 @@ use borrow.Author.Tests.{ltb-true, lt-ltb}
 use lib.Dec.{ltb, eqb}
 use lib.ListN.{drop}
 use Rattle.bounds.specs.Bounds.{code, bounds_of}
-use Rattle.bounds.specs.Checks.{late, place, said, places_of, decided, inside, check_of}
+use Rattle.bounds.specs.Checks.{late, said, places_of, decided, inside, check_of}
 use Rattle.bounds.specs.Tables.{at}
 use Rattle.bounds.specs.declared.Places.{Places}
 use Rattle.bounds.specs.declared.Places.TheVariants.{Fine, Bad, Code}

@@ -1,9 +1,8 @@
 -- The loop stays open until its own end is met.
 use Rattle.prefixes.proofs.Traits.{one_way}
-use Rattle.ends.proofs.Ending.{Inside, inside_not, inside-start, inside-fits, inside_found, inside_on}
+use Rattle.ends.proofs.Ending.{inside_not, inside-start, inside-fits, inside_found, inside_on}
 use Rattle.places.specs.Items.{row_at}
 use native.Mathlib.Omega.{arith}
-use Prim.Native.Nat.{◌-◌, ◌≤◌}
 use Rattle.ends.proofs.end_of.Goals as goal
 
 pub loop-i-init : goal.loop-i-init

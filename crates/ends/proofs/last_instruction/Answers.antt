@@ -1,6 +1,5 @@
 -- The rows that were passed are no instructions.
-use Rattle.ends.proofs.Starting.{After, after-start, after-found, after_on, after_none}
-use Rattle.places.specs.Items.{row_at}
+use Rattle.ends.proofs.Starting.{after-start, after-found, after_on, after_none}
 use native.Mathlib.Omega.{arith}
 use Rattle.ends.proofs.last_instruction.Goals as goal
 

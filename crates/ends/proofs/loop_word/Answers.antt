@@ -1,12 +1,11 @@
 -- The last instruction before the end, and the parcels up to it.
 use mir.Facts.{to_z-of_z}
 use borrow.Author.Rules.{sfits_of}
-use Rattle.ends.proofs.Words.{Last, last, word-is}
+use Rattle.ends.proofs.Words.{last, word-is}
 use Rattle.ends.specs.Ends.{last_row}
 use Rattle.prefixes.proofs.Totals.{total-up}
 use Prim.Native.Nat.{◌≤◌}
 use Rattle.places.specs.Items.{row_at, size, place, most_parcels}
-use mathlib.Core.Path.{sym, ◌∙◌}
 use native.Mathlib.Omega.{arith}
 use Rattle.ends.proofs.loop_word.Goals as goal
 

@@ -1,11 +1,9 @@
 -- The sum of the rows so far.
-use Prim.Native.Nat.{suc}
 use Rattle.ends.proofs.Ending.{place-next, arrived}
 use Rattle.prefixes.proofs.Totals.{total-up}
-use Rattle.places.specs.Items.{row_at, place, size}
+use Rattle.places.specs.Items.{row_at, size}
 use native.Mathlib.Omega.{arith}
-use mathlib.Core.Path.{◌≡◌}
-use Prim.Native.Nat.{◌+◌, ◌-◌, ◌≤◌}
+use Prim.Native.Nat.{◌+◌}
 use Rattle.ends.proofs.parcels_between.Goals as goal
 
 pub mark-item-requires : goal.mark-item-requires

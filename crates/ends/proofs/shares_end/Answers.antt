@@ -1,6 +1,5 @@
 -- No instruction was passed, so an end that is met ends on the same one.
-use Rattle.ends.proofs.Tails.{Bare, bare-start, bare-found, bare-stop, bare-on, bare-none}
-use Rattle.places.specs.Items.{row_at}
+use Rattle.ends.proofs.Tails.{bare-start, bare-found, bare-stop, bare-on, bare-none}
 use native.Mathlib.Omega.{arith}
 use Rattle.ends.proofs.shares_end.Goals as goal
 

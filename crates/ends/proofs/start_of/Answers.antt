@@ -1,7 +1,7 @@
 -- As many loops have ended on the way back as the nesting is deeper there.
 use Prim.Native.Nat.{◌-◌}
 use Rattle.prefixes.proofs.Traits.{one_way}
-use Rattle.ends.proofs.Starting.{Back, back_start, back_found, back_on, back_none}
+use Rattle.ends.proofs.Starting.{back_start, back_found, back_on, back_none}
 use Rattle.places.specs.Items.{row_at}
 use native.Mathlib.Omega.{arith}
 use Rattle.ends.proofs.start_of.Goals as goal

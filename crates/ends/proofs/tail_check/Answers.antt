@@ -7,11 +7,10 @@ use Rattle.prefixes.proofs.Traits.{entry-bit}
 use Rattle.refusals.specs.declared.Refusal.TheVariants.{LoopTailNotFullWidth}
 use Rattle.refusals.specs.declared.Verdict.TheVariants.{Refused}
 use Prim.Native.Nat.{ℕ}
-use mathlib.Core.Path.{sym, ap, ◌∙◌}
-use Rattle.ends.proofs.Tails.{Behind, behind_place, behind_start, behind_size, behind_found, behind_on, behind_body, behind_tail}
+use mathlib.Core.Path.{ap, ◌∙◌}
+use Rattle.ends.proofs.Tails.{behind_place, behind_start, behind_size, behind_found, behind_on, behind_body, behind_tail}
 use Rattle.places.specs.Items.{row_at}
 use native.Mathlib.Omega.{arith}
-use borrow.Author.Tests.{ltb-true, ltb-false}
 use Rattle.ends.proofs.tail_check.Goals as goal
 
 pub loop-i-init : goal.loop-i-init
