@@ -1,19 +1,18 @@
 -- What the short way gives is what the long way gives.
 use mathlib.Core.Path.{◌≡◌, refl, sym, ap, ap₂, ◌∙◌, subst}
 use mathlib.Core.Bool.{Bool, true, false}
-use mathlib.Core.Logic.{◌⊎◌, inl, inr}
+use mathlib.Core.Logic.{inl, inr}
 use mathlib.Core.List.{List}
-use Prim.Native.Nat.{ℕ, zero, suc, ◌+◌, ◌*◌, ◌/◌, ◌≤◌, ◌<◌}
+use Prim.Native.Nat.{ℕ, zero, suc, ◌+◌}
 use native.Mathlib.Omega.{arith}
 use lib.ListN.{length, replicate, take}
 use lib.Seq.{sets, take-length}
 use lib.Dec.{eqb}
-use Rattle.refusals.specs.declared.Verdict.TheVariants.{Good}
 use Rattle.refusals.specs.declared.Answer.TheVariants.{Accepted}
 use Rattle.refusals.specs.Numbers.{answered}
 use Rattle.encode.specs.declared.Form.{Form}
 use Rattle.encode.specs.declared.Form.TheVariants as form
-use Rattle.encode.specs.Encoding.{form_parcels, form_verdict, padded}
+use Rattle.encode.specs.Encoding.{form_parcels, padded}
 use Rattle.bounds.specs.Tables.{at}
 use Rattle.rows.specs.declared.Read.{Read}
 use Rattle.rows.specs.Rows.{read_of}
