@@ -1,5 +1,5 @@
 -- Reading back in two steps, an instrument: what the walk leaves in the lent slices before a refusal wipes it.
-use Rattle.std.specs.Prelude.{◌≡◌, List, ◌++◌, ℕ, ◌*◌, ◌≤◌, length, drop, replicate}
+use Rattle.std.specs.Prelude.{List, ℕ, ◌*◌, replicate}
 use Rattle.rows.specs.Rows.{row_width}
 use Rattle.stores.specs.Stores.{Begins}
 use Rattle.reading.specs.declared.Walk.{Walk}
