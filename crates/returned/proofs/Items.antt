@@ -31,7 +31,6 @@ use Rattle.rows.specs.Rows.{row_width, read_of, item_of}
 use Rattle.rows.specs.Kept.{Below}
 use Rattle.rows.proofs.Kept.{within-bounds}
 use Rattle.coded.specs.declared.Coding.{Coding}
-use Rattle.coded.specs.declared.Coded.TheVariants.{Instruction, LoopBegin}
 use Rattle.coded.specs.Coded.{coding_of}
 use Rattle.known.specs.Front.{EncodesTo, StartsLoop}
 use Rattle.inverse.proofs.Sorted.{instruction-row, loop-row}
