@@ -2,10 +2,10 @@
 // each is ended so too.
 #![tactic(auto)]
 
-fn main() {
+fn main(rt: HostRuntime) {
     let mut rows = [0u32; 8704];
     let mut names = [0u8; 2048];
     let mut out = [0u8; 15384];
-    let mut buf = io::large_buffer();
-    printed::input::read_all(&mut buf, &mut rows, &mut names, &mut out);
+    let mut buf = [0u8; 65536];
+    printed::input::read_all(&rt, &mut buf, &mut rows, &mut names, &mut out);
 }

@@ -1,7 +1,7 @@
 // Words, numbers and parcels of a line.
 ghost use Rattle.std.specs.Prelude.{◌≤◌};
 
-use libc::STDOUT_FILENO;
+use std::io;
 
 // The smaller of two numbers.
 pub fn least(a: usize, b: usize) -> usize
@@ -11,44 +11,38 @@ pub fn least(a: usize, b: usize) -> usize
 }
 
 // The end of a line.
-pub fn end() {
-    io::write_all(STDOUT_FILENO, b"\n");
+pub fn end(rt: &HostRuntime) -> io::Result<()> {
+    println!(rt;)
 }
 
 // A word and a number.
-pub fn number(word: &[u8], n: usize) {
-    io::write_all(STDOUT_FILENO, word);
-    io::print_decimal(STDOUT_FILENO, n as u64);
+pub fn number(rt: &HostRuntime, word: &str, n: usize) -> io::Result<()> {
+    print!(rt; "{word}{n}")
 }
 
 // A tab and a parcel in four hex digits.
-fn parcel(p: u16) {
-    io::write_all(STDOUT_FILENO, b"\t");
-    io::print_hex(STDOUT_FILENO, p as u64, 4);
+fn parcel(rt: &HostRuntime, p: u16) -> io::Result<()> {
+    print!(rt; "\t{p:04x}")
 }
 
 // The first n parcels.
-pub fn parcels(said: &[u16], n: usize) {
-    let most = least(n, said.len());
-    let mut i = 0;
-    while i < most {
-        parcel(said[i]);
-        i += 1;
+pub fn parcels(rt: &HostRuntime, said: &[u16], n: usize) -> io::Result<()> {
+    for p in said.iter().take(n) {
+        parcel(rt, *p)?;
     }
+    Ok(())
 }
 
 // A tab and a number.
-fn entry(n: u32) {
-    number(b"\t", n as usize);
+fn entry(rt: &HostRuntime, n: u32) -> io::Result<()> {
+    number(rt, "\t", n as usize)
 }
 
 // A word and the first n numbers.
-pub fn numbers(word: &[u8], said: &[u32], n: usize) {
-    io::write_all(STDOUT_FILENO, word);
-    let most = least(n, said.len());
-    let mut i = 0;
-    while i < most {
-        entry(said[i]);
-        i += 1;
+pub fn numbers(rt: &HostRuntime, word: &str, said: &[u32], n: usize) -> io::Result<()> {
+    print!(rt; "{word}")?;
+    for value in said.iter().take(n) {
+        entry(rt, *value)?;
     }
+    Ok(())
 }

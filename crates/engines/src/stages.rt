@@ -4,17 +4,18 @@ use places::{JUMP_WIDTH, LABEL_WIDTH, Rooms};
 use plain::first::Before;
 use refusals::Told;
 use rows::ROW_WIDTH;
+use std::io;
 
 // What stands in a parcel before it is written.
 const UNWRITTEN: u16 = 0xffff;
 
 // The label entries and waiting jumps of rows that take so much, and the end of the line.
-fn entries(before: Before, labels: &[u32], jumps: &[u32]) {
+fn entries(rt: &HostRuntime, before: Before, labels: &[u32], jumps: &[u32]) -> io::Result<()> {
     let n = LABEL_WIDTH * print::least(before.labels, 512);
     let m = JUMP_WIDTH * print::least(before.jumps, 512);
-    print::numbers(b"\tlabels", labels, n);
-    print::numbers(b"\tjumps", jumps, m);
-    print::end();
+    print::numbers(rt, "\tlabels", labels, n)?;
+    print::numbers(rt, "\tjumps", jumps, m)?;
+    print::end(rt)
 }
 
 // The plain engine's first walk: what these rows take, and their label entries and waiting jumps.
@@ -25,68 +26,76 @@ fn passed(rows: &[u32], names: &[u8], labels: &mut [u32; 1536], jumps: &mut [u32
 }
 
 // The line of what is known before row i.
-fn known(i: usize, before: Before, labels: &[u32; 1536], jumps: &[u32; 1024]) {
-    print::number(b"known\t", i);
-    print::number(b"\t", before.place);
-    print::number(b"\t", before.labels);
-    print::number(b"\t", before.jumps);
-    print::number(b"\t", before.depth);
-    entries(before, labels, jumps);
+fn known(
+    rt: &HostRuntime,
+    i: usize,
+    before: Before,
+    labels: &[u32; 1536],
+    jumps: &[u32; 1024],
+) -> io::Result<()> {
+    print::number(rt, "known\t", i)?;
+    print::number(rt, "\t", before.place)?;
+    print::number(rt, "\t", before.labels)?;
+    print::number(rt, "\t", before.jumps)?;
+    print::number(rt, "\t", before.depth)?;
+    entries(rt, before, labels, jumps)
 }
 
 // What the first walk knows once these i rows are passed.
-fn placed(rows: &[u32], names: &[u8], i: usize) {
+fn placed(rt: &HostRuntime, rows: &[u32], names: &[u8], i: usize) -> io::Result<()> {
     let mut labels = [0u32; 1536];
     let mut jumps = [0u32; 1024];
     let before = passed(rows, names, &mut labels, &mut jumps);
-    known(i, before, &labels, &jumps);
+    known(rt, i, before, &labels, &jumps)
 }
 
 // What the quick engine has written once these i rows are taken, of so many parcels.
-fn taken(rows: &[u32], names: &[u8], i: usize, count: usize) {
+fn taken(rt: &HostRuntime, rows: &[u32], names: &[u8], i: usize, count: usize) -> io::Result<()> {
     let mut parcels = [UNWRITTEN; 3072];
     let mut labels = [0u32; 1536];
     let mut jumps = [0u32; 1024];
     alone::taken(rows, names, &mut parcels, &mut labels, &mut jumps);
-    print::number(b"taken\t", i);
-    print::parcels(&parcels, count);
-    print::end();
+    print::number(rt, "taken\t", i)?;
+    print::parcels(rt, &parcels, count)?;
+    print::end(rt)
 }
 
 // Both after i rows.
-fn stage(rows: &[u32], names: &[u8], i: usize, count: usize) {
-    placed(rows, names, i);
-    taken(rows, names, i, count);
+fn stage(rt: &HostRuntime, rows: &[u32], names: &[u8], i: usize, count: usize) -> io::Result<()> {
+    placed(rt, rows, names, i)?;
+    taken(rt, rows, names, i, count)
 }
 
 // Both row by row.
-fn each(rows: &[u32], names: &[u8], count: usize) {
+fn each(rt: &HostRuntime, rows: &[u32], names: &[u8], count: usize) -> io::Result<()> {
     let n = rows.len() / ROW_WIDTH;
     let mut i = 0;
     while i <= n {
         let end = ROW_WIDTH * i;
-        stage(&rows[..end], names, i, count);
+        stage(rt, &rows[..end], names, i, count)?;
         i += 1;
     }
+    Ok(())
 }
 
 // The line of an answer: its engine, number and count; and what is left of rows that take so much.
 fn answer(
-    engine: &[u8],
+    rt: &HostRuntime,
+    engine: &str,
     told: Told,
     before: Before,
     parcels: &[u16],
     labels: &[u32],
     jumps: &[u32],
-) {
-    print::number(engine, told.number as usize);
-    print::number(b"\t", told.count as usize);
-    print::parcels(parcels, before.place);
-    entries(before, labels, jumps);
+) -> io::Result<()> {
+    print::number(rt, engine, told.number as usize)?;
+    print::number(rt, "\t", told.count as usize)?;
+    print::parcels(rt, parcels, before.place)?;
+    entries(rt, before, labels, jumps)
 }
 
 // The quick engine's answer.
-fn quick(rows: &[u32], names: &[u8], before: Before) {
+fn quick(rt: &HostRuntime, rows: &[u32], names: &[u8], before: Before) -> io::Result<()> {
     let mut parcels = [UNWRITTEN; 3072];
     let mut labels = [0u32; 1536];
     let mut jumps = [0u32; 1024];
@@ -97,11 +106,11 @@ fn quick(rows: &[u32], names: &[u8], before: Before) {
         &mut labels,
         &mut jumps,
     ));
-    answer(b"quick\t", told, before, &parcels, &labels, &jumps);
+    answer(rt, "quick\t", told, before, &parcels, &labels, &jumps)
 }
 
 // The plain engine's answer.
-fn plainly(rows: &[u32], names: &[u8], before: Before) {
+fn plainly(rt: &HostRuntime, rows: &[u32], names: &[u8], before: Before) -> io::Result<()> {
     let mut parcels = [UNWRITTEN; 3072];
     let mut labels = [0u32; 1536];
     let mut jumps = [0u32; 1024];
@@ -112,15 +121,15 @@ fn plainly(rows: &[u32], names: &[u8], before: Before) {
         &mut labels,
         &mut jumps,
     ));
-    answer(b"plain\t", told, before, &parcels, &labels, &jumps);
+    answer(rt, "plain\t", told, before, &parcels, &labels, &jumps)
 }
 
 // All stages, and the answers.
-pub fn all(rows: &[u32], names: &[u8]) {
+pub fn all(rt: &HostRuntime, rows: &[u32], names: &[u8]) -> io::Result<()> {
     let mut labels = [0u32; 1536];
     let mut jumps = [0u32; 1024];
     let before = passed(rows, names, &mut labels, &mut jumps);
-    each(rows, names, before.place);
-    quick(rows, names, before);
-    plainly(rows, names, before);
+    each(rt, rows, names, before.place)?;
+    quick(rt, rows, names, before)?;
+    plainly(rt, rows, names, before)
 }

@@ -3,13 +3,13 @@
 
 mod printed;
 
-use libc::STDOUT_FILENO;
+use std::io;
 
-fn main() {
+fn main(rt: HostRuntime) -> io::Result<()> {
     let mut parcels = [0u16; 3072];
     let mut out = [0u8; 1161240];
-    let mut buf = io::large_buffer();
-    let reader = hex_lines::input::read_all(&mut buf, &mut parcels);
+    let mut buf = [0u8; 65536];
+    let reader = hex_lines::input::read_all(&rt, &mut buf, &mut parcels);
     let n = printed::whole(reader, &mut parcels, &mut out);
-    io::write_all(STDOUT_FILENO, &out[..n]);
+    rt.write_all(&out[..n])
 }

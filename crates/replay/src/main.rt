@@ -3,9 +3,10 @@
 
 ghost use Rattle.std.specs.Prelude.{◌≡◌, true, ◌+◌, ◌<◌, ◌≤◌, length};
 
-use libc::{STDIN_FILENO, STDOUT_FILENO};
 use link::One;
 use refusals::Told;
+use std::io;
+use std::io::Read;
 
 // The line that is being read: its number, the fields and the digits so far, and whether it is no row; and the next free place
 // of the output.
@@ -155,111 +156,103 @@ fn put_answer(out: &mut [u8], at: usize, one: One) -> usize {
 }
 
 // Writes the output up to a place; the next free place.
-fn flush(out: &[u8], at: usize) -> usize {
+fn flush(rt: &HostRuntime, out: &[u8], at: usize) -> io::Result<usize> {
     if at <= out.len() {
-        io::write_all(STDOUT_FILENO, &out[..at]);
+        rt.write_all(&out[..at])?;
     }
-    0
+    Ok(0)
 }
 
 // The row zero again.
 fn clear(row: &mut [u32; 17]) {
-    let mut k: usize = 0;
-    while k < 17 {
-        row[k] = 0;
-        k += 1;
-    }
+    *row = [0; 17];
 }
 
 // The end of a line: its answer in the output, which is written when it is nearly full, and the row zero again.
-fn answered(s: Line, row: &mut [u32; 17], out: &mut [u8]) -> Line {
+fn answered(rt: &HostRuntime, s: Line, row: &mut [u32; 17], out: &mut [u8]) -> io::Result<Line> {
     let whole = field(s, row);
     if whole.bad {
-        return whole;
+        return Ok(whole);
     }
     if 0xffff_ffff_ffff < whole.number {
-        return spoilt(whole);
+        return Ok(spoilt(whole));
     }
     let mut at = put_answer(out, whole.at, link::lhodrupesh_instruction(row));
     if 60000 < at {
-        at = flush(out, at);
+        at = flush(rt, out, at)?;
     }
     clear(row);
-    start(whole.number + 1, at)
+    Ok(start(whole.number + 1, at))
 }
 
 // A byte more; nothing follows a line that is no row.
-fn byte(s: Line, b: u8, row: &mut [u32; 17], out: &mut [u8]) -> Line {
+fn byte(rt: &HostRuntime, s: Line, b: u8, row: &mut [u32; 17], out: &mut [u8]) -> io::Result<Line> {
     if s.bad {
-        return s;
+        return Ok(s);
     }
     match b {
-        10 => answered(s, row, out),
-        9 => field(s, row),
-        48..=57 => digit(s, b - 48),
-        _ => spoilt(s),
+        10 => answered(rt, s, row, out),
+        9 => Ok(field(s, row)),
+        48..=57 => Ok(digit(s, b - 48)),
+        _ => Ok(spoilt(s)),
     }
 }
 
 // The bytes of a read.
-fn feed(s: Line, bytes: &[u8], row: &mut [u32; 17], out: &mut [u8]) -> Line {
+fn feed(
+    rt: &HostRuntime,
+    s: Line,
+    bytes: &[u8],
+    row: &mut [u32; 17],
+    out: &mut [u8],
+) -> io::Result<Line> {
     let mut line = s;
-    let mut i = 0;
-    while i < bytes.len() {
-        line = byte(line, bytes[i], row, out);
-        i += 1;
+    for b in bytes {
+        line = byte(rt, line, *b, row, out)?;
     }
-    line
+    Ok(line)
 }
 
-// The line after a read, and how many reads more are allowed: none at the input's end and after a line that is no row.
-#[derive(Clone, Copy)]
-struct Went {
-    line: Line,
-    left: u64,
-}
-
-// One read.
-fn read_some(s: Line, left: u64, buf: &mut [u8], row: &mut [u32; 17], out: &mut [u8]) -> Went
-    requires { 0 < left }
-    ensures { result.left < left }
+// One read of standard input: how many bytes it put at the front of the buffer. 0 at the input's end, and where the read fails.
+fn read_some(rt: &HostRuntime, buf: &mut [u8]) -> usize
+    ensures { result ≤ length buf.new }
 {
-    let got = libc::read(STDIN_FILENO, buf);
-    if got <= 0 {
-        return Went { line: s, left: 0 };
-    }
-    let n = io::count(got, buf);
-    let line = feed(s, &buf[..n], row, out);
-    if line.bad {
-        return Went { line, left: 0 };
-    }
-    Went {
-        line,
-        left: left - 1,
+    match rt.stdin().read(buf) {
+        Ok(n) => n,
+        Err(_) => 0,
     }
 }
 
-// All reads.
-fn read_all(buf: &mut [u8], row: &mut [u32; 17], out: &mut [u8]) -> Line {
+// All reads, up to the input's end or a line that is no row.
+fn read_all(
+    rt: &HostRuntime,
+    buf: &mut [u8],
+    row: &mut [u32; 17],
+    out: &mut [u8],
+) -> io::Result<Line> {
     let mut line = start(1, 0);
-    let mut left = u64::MAX;
-    while 0 < left {
-        let went = read_some(line, left, buf, row, out);
-        line = went.line;
-        left = went.left;
+    for _ in 0..u64::MAX {
+        let n = read_some(rt, buf);
+        if n == 0 {
+            break;
+        }
+        line = feed(rt, line, &buf[..n], row, out)?;
+        if line.bad {
+            break;
+        }
     }
-    line
+    Ok(line)
 }
 
 // The last line, which may lack its end.
-fn finished(line: Line, row: &mut [u32; 17], out: &mut [u8]) -> Line {
+fn finished(rt: &HostRuntime, line: Line, row: &mut [u32; 17], out: &mut [u8]) -> io::Result<Line> {
     if line.begun {
-        return answered(line, row, out);
+        return answered(rt, line, row, out);
     }
     if line.fields == 0 {
-        return line;
+        return Ok(line);
     }
-    spoilt(line)
+    Ok(spoilt(line))
 }
 
 // The whole output, with the line that is no row at its end; its length.
@@ -275,12 +268,13 @@ fn ended(line: Line, out: &mut [u8]) -> usize {
     text::put(out, number, 10)
 }
 
-fn main() {
+fn main(rt: HostRuntime) -> io::Result<()> {
     let mut row = [0u32; 17];
     let mut out = [0u8; 65536];
-    let mut buf = io::large_buffer();
-    let read = read_all(&mut buf, &mut row, &mut out);
-    let line = finished(read, &mut row, &mut out);
+    let mut buf = [0u8; 65536];
+    let read = read_all(&rt, &mut buf, &mut row, &mut out)?;
+    let line = finished(&rt, read, &mut row, &mut out)?;
     let at = ended(line, &mut out);
-    flush(&out, at);
+    flush(&rt, &out, at)?;
+    Ok(())
 }

@@ -3,18 +3,18 @@
 
 mod texts;
 
-use libc::{STDERR_FILENO, STDOUT_FILENO};
+use std::io;
 
-fn main() {
+fn main(rt: HostRuntime) -> io::Result<()> {
     let mut rows = [0u32; 8704];
     let mut names = [0u8; 2048];
     let mut out = [0u8; 1231872];
     let mut notes = [0u8; 25600];
-    let mut buf = io::large_buffer();
-    let reader = reader::input::read_all(&mut buf, &mut rows, &mut names);
+    let mut buf = [0u8; 65536];
+    let reader = reader::input::read_all(&rt, &mut buf, &mut rows, &mut names);
     let lengths = texts::whole(reader, &mut rows, &mut names, &mut out, &mut notes);
     let n = lengths.list;
     let k = lengths.notes;
-    io::write_all(STDERR_FILENO, &notes[..k]);
-    io::write_all(STDOUT_FILENO, &out[..n]);
+    rt.stderr().write_all(&notes[..k])?;
+    rt.write_all(&out[..n])
 }

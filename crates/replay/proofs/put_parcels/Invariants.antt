@@ -1,11 +1,9 @@
--- The loop goes over the six places, five bytes each at most, and the output keeps its length.
-use Prim.Native.Nat.{◌≤◌, ◌+◌, ◌-◌, ◌*◌}
-use mathlib.Core.Path.{◌≡◌}
-use lib.ListN.{length}
+-- The loop goes over the six places, five bytes each at most.
+use Rattle.std.proofs.Common.{◌+◌, ◌-◌, ◌*◌, ◌≤◌}
 use Rattle.replay.proofs.put_parcels.Given as goal
 
 abbrev pub invariant-loop-i : goal.invariant-loop-i
-invariant-loop-i l = (l.i ≤ 6) × (length l.out ≡ length l.initial.out) × (l.next ≤ l.at + 5 * l.i)
+invariant-loop-i l = (l.i ≤ 6) × (l.next ≤ l.at + 5 * l.i)
 
 abbrev pub decreases-loop-i : goal.decreases-loop-i
 decreases-loop-i l = 6 - l.i
