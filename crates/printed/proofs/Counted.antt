@@ -3,7 +3,7 @@ use mathlib.Core.Path.{◌≡◌, refl}
 use mathlib.Core.List.{List}
 use Prim.Native.Nat.{ℕ, ◌≤◌}
 use native.Mathlib.Omega.{arith}
-use lib.ListN.{length, replicate, length-replicate}
+use lib.ListN.{replicate, length-replicate}
 use Rattle.refusals.specs.Numbers.{answered}
 use Rattle.places.specs.Left.{lent_of, zero_loop}
 use Rattle.rules.proofs.Fits.{accepted-fits}

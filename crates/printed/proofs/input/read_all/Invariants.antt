@@ -1,11 +1,7 @@
--- A reader that has read something at each turn, and a read less is left.
-use mathlib.Core.Path.{◌≡◌}
-use lib.ListN.{length}
+-- A reader that has read something at each turn.
+use Rattle.std.proofs.Common.{◌≤◌, length}
 use Rattle.reader.specs.Steps.{HasSome}
 use Rattle.printed.proofs.input.read_all.Given as goal
 
-abbrev pub invariant-loop-s : goal.invariant-loop-s
-invariant-loop-s l = HasSome l.s.reader l.rows l.names × (length l.buf ≡ length l.initial.buf) × (length l.out ≡ length l.initial.out)
-
-abbrev pub decreases-loop-s : goal.decreases-loop-s
-decreases-loop-s l = l.s.left
+abbrev pub invariant-loop : goal.invariant-loop
+invariant-loop l = HasSome l.s.reader l.rows l.names × (15384 ≤ length l.out)
