@@ -7,7 +7,7 @@ use lib.ListN.{get_or, drop}
 use lib.Seq.{get_or-take, get_or-drop}
 use Rattle.bounds.specs.Tables.{at}
 use Rattle.rows.specs.Rows.{row_width}
-use Rattle.widening.specs.Widening.{has_twin, twin, row_of}
+use Rattle.widening.specs.Widening.{twin, row_of}
 
 module _ (rows : List ℕ) (i : ℕ) where
   pub cell : (k : ℕ) → k < row_width → at (row_of rows i) k ≡ get_or rows (i * row_width + k) 0

@@ -1,16 +1,14 @@
 -- Looking on from a row for the end of the loop that it stands in: loops in between are passed over, and no end of theirs has the row in its tail.
-use mathlib.Core.Path.{◌≡◌, refl, sym, ap, ◌∙◌, subst}
+use mathlib.Core.Path.{◌≡◌, refl, sym, subst}
 use mathlib.Core.Logic.{⊎_elim}
 use mathlib.Core.Bool.{Bool, true, false, ◌&&◌}
-use mathlib.Core.List.{List}
 use Prim.Native.Nat.{ℕ, suc, ◌+◌, ◌-◌, ◌≤◌, ◌<◌}
 use native.Mathlib.Omega.{arith}
 use native.Mathlib.Numerals.{add-one}
 use native.Mathlib.Nat.{eq-or-lt_of_le}
-use lib.Dec.{eqb, ltb, leb}
-use borrow.Author.Tests.{lt-ltb, le-ltb, le-leb, lt-leb, eqb-true, ltb-true, leb-true}
+use lib.Dec.{ltb, leb}
+use borrow.Author.Tests.{lt-ltb, le-leb, eqb-true, ltb-true, leb-true}
 use Rattle.refusals.proofs.Order.{below_suc}
-use Rattle.coded.specs.declared.Coded.{Coded}
 use Rattle.places.specs.Items.{Kernel, about, is_entry, is_end, entries, nest}
 use Rattle.places.specs.Looking.{opener, is_in_tail}
 use Rattle.prefixes.proofs.Tests.{not_so, and_both, order}

@@ -1,19 +1,19 @@
 -- After i rows their copies and the changes among them stand at the front of the lent slices.
-use mathlib.Core.Path.{◌≡◌, refl, sym, ap, ◌∙◌, subst}
+use mathlib.Core.Path.{◌≡◌, refl, sym, ap, ◌∙◌}
 use mathlib.Core.Bool.{Bool, true, false, cond}
 use mathlib.Core.List.{List, [], ◌∷◌, ◌++◌, append-nil}
-use Prim.Native.Nat.{ℕ, suc, ◌+◌, ◌*◌, ◌/◌, ◌≤◌, ◌<◌}
+use Prim.Native.Nat.{ℕ, suc, ◌+◌, ◌*◌, ◌≤◌, ◌<◌}
 use native.Mathlib.Omega.{arith}
 use native.Mathlib.Numerals.{add-one}
-use lib.ListN.{length, get_or, set, take, drop, length-drop}
+use lib.ListN.{length, get_or, set, drop, length-drop}
 use lib.Seq.{paste, append_snoc, length-take-le}
 use lib.Dec.{eqb}
 use Rattle.bounds.specs.Tables.{at}
-use Rattle.rows.specs.Rows.{row_width, most_rows}
+use Rattle.rows.specs.Rows.{row_width}
 use Rattle.places.specs.Items.{row_count}
 use Rattle.places.specs.Left.{gather}
 use Rattle.stores.specs.Stores.{Begins}
-use Rattle.stores.proofs.Stores.{begins_unwritten, begins-one, begins-run, row-after}
+use Rattle.stores.proofs.Stores.{begins_unwritten, begins-one, begins-run}
 use Rattle.widening.specs.Widening.{wide_nop, memory_move, twin, row_of, changes, copied, listed, changed, how_many, change_width}
 use Rattle.widening.specs.Walks.{Writes}
 use Rattle.widening.proofs.Cells.{kind-cell}
