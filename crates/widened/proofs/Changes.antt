@@ -6,7 +6,7 @@ use mathlib.Core.Logic.{⊎_elim}
 use mathlib.Core.Bool.{Bool, true, false}
 use mathlib.Core.List.{List, [], ◌++◌, append-nil}
 use lib.ListN.{length}
-use Rattle.refusals.specs.declared.Verdict.TheVariants.{Good, Refused}
+use Rattle.refusals.specs.declared.Verdict.TheVariants.{Good}
 use Rattle.refusals.proofs.Order.{refused-good}
 use Rattle.items.specs.declared.Item.{Item}
 use Rattle.encode.specs.Encoding.{parcels_of}

@@ -5,7 +5,7 @@ use mathlib.Core.Path.{◌≡◌, refl, sym, ap, ap₂, ◌∙◌}
 use mathlib.Core.Bool.{true}
 use mathlib.Core.List.{List, [], ◌++◌}
 use lib.Dec.{eqb, leb}
-use lib.ListN.{length, take, length-append, length-take, length-drop, drop_of_length-le}
+use lib.ListN.{length, take, length-append, drop_of_length-le}
 use lib.Seq.{take_all, take-nil, take-add}
 use borrow.Author.Tests.{eqb-true}
 use Rattle.rows.specs.Rows.{row_width, most_rows, well_formed}

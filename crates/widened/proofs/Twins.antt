@@ -5,7 +5,7 @@ use mathlib.Core.Path.{◌≡◌, refl, sym, ap, ◌∙◌, subst}
 use mathlib.Core.Bool.{Bool, true, false, ◌||◌}
 use mathlib.Core.List.{List, [], ◌∷◌}
 use lib.Dec.{eqb}
-use lib.ListN.{length, drop}
+use lib.ListN.{drop}
 use borrow.Author.Tests.{eqb-true}
 use Rattle.refusals.specs.declared.Verdict.TheVariants.{Good}
 use Rattle.items.specs.declared.Direction.{Direction}
@@ -23,7 +23,7 @@ use Rattle.bounds.specs.Bounds.{filled, fields, compute, bounds_of}
 use Rattle.bounds.specs.Checks.{said, places_of, check_of}
 use Rattle.rows.specs.declared.Read.TheVariants as read
 use Rattle.rows.specs.Fields.{code, index, modifier, direction_of, update_of, transfers, others, instruction_of}
-use Rattle.rows.specs.Rows.{row_width, after, read_of, item_of, beside_of, memory_access_of}
+use Rattle.rows.specs.Rows.{read_of, item_of, beside_of, memory_access_of}
 use Rattle.rows.specs.Kept.{Below}
 use Rattle.rows.proofs.Kept.{within-bounds, read-item}
 use Rattle.faithful.proofs.Lines.{◌&◌}
