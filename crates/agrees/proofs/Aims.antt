@@ -5,7 +5,6 @@ use mathlib.Core.List.{List, []}
 use Prim.Native.Nat.{ℕ, suc, ◌+◌, ◌*◌, ◌<◌}
 use native.Mathlib.Omega.{arith}
 use lib.ListN.{get_or}
-use Rattle.refusals.specs.declared.Verdict.{Verdict}
 use Rattle.refusals.specs.declared.Verdict.TheVariants.{Good, Refused}
 use Rattle.items.specs.declared.Condition.{Condition}
 use Rattle.coded.specs.declared.Coded.TheVariants.{Instruction, Label, Jump, LoopBegin, LoopEnd}

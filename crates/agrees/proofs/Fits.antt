@@ -6,7 +6,6 @@ use lib.ListN.{length}
 use Rattle.refusals.specs.declared.Verdict.TheVariants.{Good}
 use Rattle.coded.specs.declared.Coded.TheVariants.{LoopEnd}
 use Rattle.coded.specs.declared.Coded.{Coded}
-use Rattle.coded.specs.declared.Coded.TheVariants as coded
 use Rattle.places.specs.declared.Rooms.{Rooms}
 use Rattle.places.specs.Items.{Kernel, is_label, is_jump, total, place, nest}
 use Rattle.places.specs.Left.{Lent}

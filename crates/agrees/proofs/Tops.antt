@@ -14,7 +14,6 @@ use Rattle.items.specs.declared.LoopMode.TheVariants.{E2Active, F1Active}
 use Rattle.encode.specs.Encoding.{loop_form}
 use Rattle.coded.specs.declared.Coded.TheVariants.{LoopBegin}
 use Rattle.coded.specs.declared.Coded.{Coded}
-use Rattle.coded.specs.declared.Coded.TheVariants as coded
 use Rattle.places.specs.declared.OpenLoop.{OpenLoop}
 use Rattle.places.specs.Items.{address_of, address, nest}
 use Rattle.places.specs.Left.{Lent}

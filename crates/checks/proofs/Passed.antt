@@ -1,14 +1,14 @@
 -- What it says that an item's checks are passed: each of its tests came out false.
 use mathlib.Core.Path.{◌≡◌, refl}
 use mathlib.Core.Bool.{Bool, false, ◌&&◌}
-use mathlib.Core.List.{List, [], ◌∷◌}
+use mathlib.Core.List.{List}
 use Prim.Native.Nat.{ℕ, ◌+◌, ◌≤◌}
 use lib.Dec.{ltb}
 use borrow.Author.Tests.{ltb-false}
 use Rattle.refusals.specs.declared.Refusal.{Refusal}
 use Rattle.refusals.specs.declared.Verdict.{Verdict}
-use Rattle.refusals.specs.declared.Verdict.TheVariants.{Good, Refused}
-use Rattle.refusals.specs.Order.{when, or_else, first}
+use Rattle.refusals.specs.declared.Verdict.TheVariants.{Good}
+use Rattle.refusals.specs.Order.{when, or_else}
 use Rattle.items.specs.Kinds.{is_branch}
 use Rattle.encode.specs.Encoding.{form_verdict}
 use Rattle.coded.specs.declared.Coding.{Coding}

@@ -8,7 +8,7 @@ use borrow.Author.Tests.{eqb-false}
 use Rattle.refusals.specs.declared.Refusal.{Refusal}
 use Rattle.refusals.specs.declared.Verdict.{Verdict}
 use Rattle.refusals.specs.declared.Verdict.TheVariants.{Good, Refused}
-use Rattle.refusals.specs.Order.{first, if_good}
+use Rattle.refusals.specs.Order.{if_good}
 use Rattle.encode.specs.Encoding.{form_verdict}
 use Rattle.places.specs.declared.OpenLoop.{OpenLoop}
 use Rattle.refusals.proofs.Order.{or_else-good}

@@ -1,5 +1,5 @@
 -- An instrument of the build's proof: what a row's checks say of a state, and what a row makes of the state and of each lent buffer.
-use Rattle.std.specs.Prelude.{◌≡◌, Bool, true, cond, ◌&&◌, List, [], ◌∷◌, ℕ, ◌+◌, ◌-◌, ◌*◌, ◌≤◌, ◌<◌, ◌%◌, length, get_or, set, ltb, eqb, pos, ◌-ℤ◌}
+use Rattle.std.specs.Prelude.{◌≡◌, Bool, cond, ◌&&◌, List, [], ◌∷◌, ℕ, ◌+◌, ◌-◌, ◌*◌, ◌≤◌, ◌<◌, ◌%◌, length, get_or, set, ltb, eqb, pos, ◌-ℤ◌}
 use Rattle.std.proofs.lemmas.List.Edits.{sets}
 use Rattle.refusals.specs.declared.Refusal.TheVariants.{EmptyLoop, UnmatchedLoopEnd, SharedLoopEnd, LoopTailNotFullWidth}
 use Rattle.refusals.specs.declared.Verdict.{Verdict}

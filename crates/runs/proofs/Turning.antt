@@ -1,7 +1,7 @@
 -- A turn by a glance that is right about its row takes the row, or ends the run; and what a run keeps, row by row.
 use mathlib.Core.Path.{◌≡◌, refl}
 use mathlib.Core.Bool.{Bool, true, false, cond}
-use mathlib.Core.Logic.{◌⊎◌, inl, inr}
+use mathlib.Core.Logic.{inl, inr}
 use mathlib.Core.List.{List}
 use Prim.Native.Nat.{ℕ, suc, ◌+◌, ◌-◌, ◌≤◌, ◌<◌}
 use native.Mathlib.Omega.{arith}
@@ -14,10 +14,10 @@ use Rattle.encode.proofs.Sizes.{form-few}
 use Rattle.combined.specs.declared.Glance.{Glance}
 use Rattle.combined.specs.declared.Glance.TheVariants.{Short, Pair, Word, Branch, Leaf, Other}
 use Rattle.combined.specs.Right.{Seen, Plain, Right}
-use Rattle.places.specs.Items.{row_count, size_of, most_parcels}
+use Rattle.places.specs.Items.{row_count}
 use Rattle.runs.specs.declared.Run.{Run}
 use Rattle.runs.specs.declared.Turn.{Turn}
-use Rattle.runs.specs.Runs.{took, onward, stopped, turn_for, parcels_by, row_in, Taken, Turned, Ran, Skimming, Runs}
+use Rattle.runs.specs.Runs.{onward, stopped, turn_for, parcels_by, row_in, Turned, Skimming, Runs}
 
 module _ (rows : List ℕ) (room : ℕ) (free : Bool) (x : Run) (p : List ℕ) (left : x.row < row_count rows) (roomy : x.at + 6 ≤ room) where
   plain-taken : (f : Form) → form_verdict f ≡ Good → Plain (row_in rows x.row) f → Turned rows room free x p (onward f x) (sets p x.at (form_parcels f))

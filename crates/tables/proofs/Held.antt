@@ -10,7 +10,7 @@ use Rattle.coded.specs.declared.Coded.TheVariants.{Instruction, Label, Jump, Loo
 use Rattle.coded.specs.declared.Coded.{Coded}
 use Rattle.places.specs.Items.{Kernel, is_label, is_jump, total, place, address, label_width, jump_width}
 use Rattle.places.specs.Left.{left, gather}
-use Rattle.tables.specs.Held.{LabelEntry, HoldsLabels}
+use Rattle.tables.specs.Held.{HoldsLabels}
 use Rattle.tables.proofs.Stores.{gather-length, table_is, table_at}
 use Rattle.tables.proofs.Which.{IsJump}
 

@@ -2,8 +2,6 @@
 use Rattle.agrees.proofs.Parcels.{opener-low}
 use Rattle.places.specs.Items.{row_at}
 use native.Mathlib.Omega.{arith}
-use borrow.Author.Tests.{lt-ltb, le-ltb}
-use borrow.Author.Rules.{rules}
 use Rattle.build.proofs.named_row.Goals as goal
 
 pub overflow_cast-result-2 : goal.overflow_cast-result-2

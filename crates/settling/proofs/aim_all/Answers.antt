@@ -1,14 +1,10 @@
 -- After k turns the parcels are what the machine has after k waiting jumps.
-use Prim.Native.Nat.{◌+◌, ◌*◌}
 use Rattle.settling.proofs.Waits.{read-on}
 use Rattle.coded.proofs.Fine.{coded-fine}
-use Rattle.refusals.specs.Scan.{Going, going_start, going_next, going-stop, going_end}
-use Rattle.settling.specs.Settling.{wait_chk, waited}
-use Rattle.places.specs.Items.{kernel_of}
+use Rattle.refusals.specs.Scan.{going_next, going-stop}
 use lib.ListN.{length}
 use native.Mathlib.Omega.{arith}
-use Prim.Native.Nat.{◌-◌}
-use mathlib.Core.Path.{◌≡◌, refl, sym, ◌∙◌}
+use mathlib.Core.Path.{refl, sym, ◌∙◌}
 use borrow.Author.Rules.{rules}
 use Rattle.settling.proofs.aim_all.Goals as goal
 

@@ -5,7 +5,6 @@ use Rattle.taking.proofs.NextRow.{row_next}
 use native.Mathlib.Omega.{arith}
 use mathlib.Core.Logic.{inl, inr}
 use mathlib.Core.Path.{refl, sym, ◌∙◌}
-use borrow.Author.Rules.{rules}
 use Rattle.taking.proofs.at_row.Goals as goal
 
 pub long_row-requires : goal.long_row-requires

@@ -1,7 +1,5 @@
 -- The step of what the row comes to is that of the row.
 use Rattle.prefixes.proofs.Names.{row_fine}
-use Rattle.taking.proofs.NextRow.{read_as}
-use borrow.Author.Rules.{rules}
 use Rattle.taking.proofs.long_row.Goals as goal
 
 pub step-step-requires : goal.step-step-requires

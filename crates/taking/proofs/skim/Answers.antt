@@ -1,6 +1,5 @@
 -- A run from where the rows stand.
 use Rattle.taking.proofs.Skims.{skimmed-by}
-use borrow.Author.Rules.{rules}
 use Rattle.taking.proofs.skim.Goals as goal
 
 pub returns : goal.returns

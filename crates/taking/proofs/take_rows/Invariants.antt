@@ -1,6 +1,4 @@
 -- A turn while there is more. The lent slices stand at lists as long as those that were passed.
-use mathlib.Core.Path.{◌≡◌}
-use lib.ListN.{length}
 use Rattle.places.specs.Left.{lent_of}
 use Rattle.taking.proofs.Turning.{Along, left}
 use Rattle.taking.proofs.take_rows.Given as goal

@@ -1,9 +1,8 @@
 -- The first k entries decide, once the newer ones have another name.
 use borrow.Author.Rules.{rules}
 use mathlib.Core.Path.{◌≡◌, refl, sym, ◌∙◌}
-use Prim.Native.Nat.{◌-◌, ◌≤◌}
+use Prim.Native.Nat.{◌-◌}
 use native.Mathlib.Omega.{arith}
-use Rattle.tables.specs.Tables.{lookup}
 use Rattle.tables.proofs.Searches.{find_hit, find_more}
 use Rattle.tables.proofs.names.find.Goals as goal
 

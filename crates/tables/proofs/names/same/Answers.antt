@@ -1,9 +1,7 @@
 -- The first k bytes decide, once those after them are the same.
 use borrow.Author.Rules.{rules}
 use mathlib.Core.Path.{◌≡◌, refl, sym, ◌∙◌}
-use Prim.Native.Nat.{◌-◌, ◌≤◌}
 use native.Mathlib.Omega.{arith}
-use Rattle.places.specs.Looking.{same_from}
 use Rattle.tables.proofs.Searches.{same_more, same-less}
 use Rattle.tables.proofs.names.same.Goals as goal
 
