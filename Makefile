@@ -32,7 +32,7 @@ widen: ## build the program widen and run it on KERNEL (default: examples/sum.ke
 	@sh tools/program $@ widen KERNEL "$$KERNEL"
 
 test: ## the verdict: prove every crate from nothing, try the must-fail edits, run the programs
-	@sh tools/progress $@ ci
+	@sh tools/programs $@
 
 test-commands: ## try the commands themselves: what they say of their progress, of failures, of what is missing and of refusals
 	@sh tools/test-commands
@@ -41,7 +41,7 @@ docs: ## print anew what the documents take from the tree: docs/FORMS.md, its pi
 	@python3 tools/forms
 	@python3 tools/believed
 	@python3 tools/map
-	@sh tools/progress $@ check engines || ! grep -q 'NOT PROVED' target/$@.log
+	@sh tools/programs $@ engines
 	@python3 tools/engines
 
 walks: ## print anew the proofs of the functions that hold the lent loop records
@@ -52,7 +52,8 @@ docs-check: ## check that the documents, and the printed proofs, are what the de
 	@python3 tools/forms --check
 	@python3 tools/believed --check
 	@python3 tools/map --check
-	@sh tools/progress $@ check bench readback widen layouts engines
+	@sh tools/programs $@ bench readback widen layouts engines
+	@sh tools/stored bench readback widen layouts engines
 	@python3 tools/examples
 	@python3 tools/engines --check
 
@@ -60,7 +61,9 @@ oracle: ## build the driver over the original Rust (QC_ASM=folder of its sources
 	@sh oracle/build
 
 link: ## prove the library and write target/staticlib/liblink.a
-	@sh tools/progress $@ staticlib link
+	@sh tools/progress $@ lib exports
+	@mkdir -p $(dir $(LINK)) && cp crates/exports/out/libexports.a $(LINK)
+	@echo "$(LINK) has the functions that crates/exports marks for C"
 
 sample: oracle ## make the stored answers of the original Rust anew
 	@sh oracle/store
