@@ -25,7 +25,7 @@ def groups():
             found.append((line.lstrip("# "), {}))
         elif ":" in line:
             name, needs = line.split("#")[0].split(":")
-            found[-1][1][name.strip()] = needs.split()
+            found[-1][1][name.split()[0]] = needs.split()
     return found
 
 
