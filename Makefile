@@ -31,7 +31,7 @@ widen: KERNEL := examples/sum.kernel
 widen: ## build the program widen and run it on KERNEL (default: examples/sum.kernel): the list with loop tails at full width, and what was changed
 	@sh tools/program $@ widen KERNEL "$$KERNEL"
 
-test: ## the verdict: prove every crate from nothing, try the must-fail edits, run the programs
+test: ## the verdict, `rt ci`: prove every crate from nothing, try the must-fail edits, run the programs; edits that do not fit the text fail too
 	@sh tools/programs $@
 
 test-commands: ## try the commands themselves: what they say of their progress, of failures, of what is missing and of refusals
@@ -89,6 +89,6 @@ speed: link ## time both engines of the port, its reader of parcels, its widenin
 	@LINK_LIB=target/staticlib sh oracle/build compare
 	@$(ORACLE)/compare speed --write docs
 
-count-instructions: link ## count the instructions of the same calls under the kit's emulator, on another processor than x86-64, a quarter of an hour
+count-instructions: link ## count the instructions of the same calls under an emulator, on another processor than x86-64, a quarter of an hour
 	@sh oracle/build
 	@python3 tools/count-instructions

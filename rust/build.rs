@@ -10,15 +10,15 @@ fn main() {
     println!("cargo:rerun-if-changed={}", library.display());
     assert!(
         library.is_file(),
-        "{} isn't there: `rt staticlib link` writes it to target/staticlib, and LINK_LIB=folder \
-         names another place",
+        "{} isn't there: `make link` writes it to target/staticlib, and LINK_LIB=folder names \
+         another place",
         library.display()
     );
     println!("cargo:rustc-link-search=native={}", folder.display());
     println!("cargo:rustc-link-lib=static=link");
 }
 
-/// Where LINK_LIB says, else where `rt staticlib link` writes it.
+/// Where LINK_LIB says, else where `make link` writes it.
 fn folder() -> PathBuf {
     match env::var_os("LINK_LIB") {
         Some(folder) => folder.into(),
