@@ -7,7 +7,7 @@ ORACLE := target/oracle
 # What runs a program for x86-64: nothing on such a machine, `tools/run` on another.
 X86_64 := $(if $(filter x86_64,$(shell uname -m)),,sh tools/run)
 
-COMMANDS := help run readback widen test test-commands docs walks docs-check oracle sample link compare compare-short check-memory speed count-instructions
+COMMANDS := help run readback widen test test-commands docs docs-check oracle sample link compare compare-short check-memory speed count-instructions
 export KERNEL PARCELS
 
 .PHONY: $(COMMANDS)
@@ -44,11 +44,7 @@ docs: ## print anew what the documents take from the tree: docs/FORMS.md, its pi
 	@sh tools/programs $@ engines
 	@python3 tools/engines
 
-walks: ## print anew the proofs of the functions that hold the lent loop records
-	@python3 tools/walks
-
-docs-check: ## check that the documents, and the printed proofs, are what the definitions, the programs and the scripts say
-	@python3 tools/walks --check
+docs-check: ## check that the documents are what the definitions, the programs and the scripts say
 	@python3 tools/forms --check
 	@python3 tools/believed --check
 	@python3 tools/map --check
