@@ -44,7 +44,7 @@ module _ (k : Kernel) (lent : Lent) (r : Rooms) (rooms : RoomingIn r lent) (fine
         entries = g.entries;
         jumps_in = omega (arith, g);
         places_in = λ q h. let w = settles q h in omega (arith, g);
-        places-few = λ q h. let w = settles q h in omega (arith, g);
+        places_few = λ q h. let w = settles q h in omega (arith, g);
         rows_in = λ q h. (settles q h).1;
         rows_few = few;
       }

@@ -51,7 +51,7 @@ leaf-window parcels s =
     front : at (take 6 parcels) 0 ≡ at parcels 0 → at (take 6 parcels) 1 ≡ at parcels 1 → at (take 6 parcels) 2 ≡ at parcels 2 → window (take 6 parcels) ≡ window parcels
     front x y z = rw (x, y, z)
 
--- "its first two alone are a pre_modify load of I12": of six parcels the reader's table sees these two
+-- "its first two alone are a pre-modify load of I12": of six parcels the reader's table sees these two
 pub leaf-pair : (known_in (window (cut 6 (pack leaf_return)))).parcels ≡ 2
 unfolding known_in table
 leaf-pair = refl

@@ -89,6 +89,6 @@ access_faults a b c d e = over 1 a + over 95 b + over 15 c + over 15 d + over 1 
 unfoldable pub memory_fits : ℕ → ℕ → ℕ → ℕ → ℕ → ℕ → ℕ → ℕ → Bool
 memory_fits a b c d e f g h = eqb (access_faults a b c d e + unlike (c / 8) (d / 8) + four f g h 0) 0
 
--- a post_modify access or a store of a register of the DAG that addresses it
+-- a post-modify access or a store of a register of the DAG that addresses it
 unfoldable pub own_dag : ℕ → ℕ → ℕ → ℕ → Bool
 own_dag direction code index update = not (eqb (bit_of (eqb update 0) + bit_of (eqb direction 1)) 0) && in_dag (code % 256) (leb 8 index)

@@ -39,9 +39,9 @@ form-none (Word w) r g = cc
 form-none Leaf r g = cc
 form-none (Refused s) r g = refl
 
-pub parcels-few : (v : VisaInstruction) → length (parcels_of v) ≤ 6
+pub parcels_few : (v : VisaInstruction) → length (parcels_of v) ≤ 6
 unfolding parcels_of
-parcels-few v = form-few (form_of v)
+parcels_few v = form-few (form_of v)
 
 pub parcels-some : (v : VisaInstruction) → verdict_of v ≡ Is.Good → 1 ≤ length (parcels_of v)
 unfolding parcels_of verdict_of

@@ -54,7 +54,7 @@ offset_layout register index offset store =
     laid (offset_refusals register index store) (cond near 2 3)
     (cond near (offset15b register.0 index.0 (folded 7 offset) (bit_of store)) (offset15a register.0 index.0 (folded 32 offset) (bit_of store)))
 
--- post_modify is 3c, pre_modify 3b
+-- post-modify is 3c, pre-modify 3b
 abbrev pub modify_layout : UniversalRegister → IndexRegister → ModifyRegister → Bool → Bool → Layout
 modify_layout register index modifier store post =
     laid (modify_refusals register index modifier store post) (cond post 1 2)

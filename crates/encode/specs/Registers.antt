@@ -36,7 +36,7 @@ dm_clashes k dm = loads dm && writes k dm.register.0
 unfoldable pub pm_clashes : OptionalCompute → DataAccess → DataAccess → Bool
 pm_clashes k dm pm = loads pm && (writes k pm.register.0 || (loads dm && eqb dm.register.0 pm.register.0))
 
--- a post_modify access or a store of a register of the DAG that addresses it
+-- a post-modify access or a store of a register of the DAG that addresses it
 unfoldable pub same_dag : MemoryAccess → Bool
 same_dag access = (is_post access.update || is_store access.direction) && in_dag access.register.0 (is_pm access.index.0)
 

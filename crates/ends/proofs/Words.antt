@@ -40,7 +40,7 @@ module _ (it : ℕ → Coded) (end : ℕ) (start : ℕ) (before : start < end) (
   -- the last instruction before the end is the start, or one of the body
   pub record Last (row : ℕ) : Type 0 where
     pub from : start ≤ row
-    pub before-end : row < end
+    pub before_end : row < end
     pub address_is : last_at it end ≡ address it row
     pub entry : is_entry (it row) ≡ 1
     pub none_after : entries it (suc row) ≡ entries it end
@@ -59,7 +59,7 @@ module _ (it : ℕ → Coded) (end : ℕ) (start : ℕ) (before : start < end) (
           subst Last (sym (latest-is test (λ k. k) end r))
           (record {
             from = not_after r start before starts;
-            before-end = r.before;
+            before_end = r.before;
             address_is = latest-is test (λ k. address it k) end r;
             entry = eqb-true _ _ r.holds;
             none_after = flat is_entry it (suc r.row) end r.before (λ q u v. no-entry it q (r.after q u v));

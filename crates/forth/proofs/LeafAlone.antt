@@ -1,4 +1,4 @@
--- Document 02, wish 4: the first two parcels of `LeafReturn` alone are "a pre_modify load of I12, and then the third starts no known form".
+-- Document 02, wish 4: the first two parcels of `LeafReturn` alone are "a pre-modify load of I12, and then the third starts no known form".
 use Prim.Native.Nat.{ℕ, ◌+◌, ◌*◌, ◌/◌, ◌^◌, ◌<◌}
 use native.Mathlib.Omega.{arith}
 use mathlib.Core.Path.{◌≡◌, refl, ap, ◌∙◌}
@@ -46,7 +46,7 @@ pub third-unknown : (rest : List ℕ) → Parcels rest → reading_at (0x083f �
 unfolding known_at
 third-unknown rest h = rw (third-nothing rest h, le-leb 0 (length (0x083f ∷ rest)) (omega arith))
 
--- "its first two alone are a pre_modify load of I12": where the other four do not follow
+-- "its first two alone are a pre-modify load of I12": where the other four do not follow
 abbrev load : List ℕ
 load = line 21 28 6 7
 

@@ -49,7 +49,7 @@ module _ (row : List ℕ) where
     pub in_x : a ≤ x
     pub in_y : b ≤ y
     pub in_z : c ≤ z
-    pub form-is : at row 1 < suc a → at row 2 < suc b → at row 3 < suc c → form_of (at-kind kind) ≡ f
+    pub form_is : at row 1 < suc a → at row 2 < suc b → at row 3 < suc c → form_of (at-kind kind) ≡ f
 
   -- a kind that holds no compute and is no mark
   abbrev pub Simple : ℕ → Type 0
@@ -71,7 +71,7 @@ module _ (row : List ℕ) where
         in_x = p;
         in_y = q;
         in_z = r;
-        form-is = f;
+        form_is = f;
       }
 
   -- where the limits are the bounds
@@ -87,7 +87,7 @@ module _ (row : List ℕ) where
 
     -- what a line that fits shows
     coded : {kind a b c : ℕ} {f : Form} → Line kind a b c f → fits_of a b c row ≡ true → form_of (at-kind kind) ≡ f
-    coded {kind} {a} {b} {c} l t = let h = fits-fields a b c row t in l.form-is h.0 h.1 h.2
+    coded {kind} {a} {b} {c} l t = let h = fits-fields a b c row t in l.form_is h.0 h.1 h.2
 
     shows : {kind a b c : ℕ} {f g : Form} → f ≡ g → Line kind a b c f → fits_of a b c row ≡ true → Seen row g
     shows {kind} e l t = record { instruction = at-kind kind; reads = reads-line l t; encodes = coded l t ∙ e }

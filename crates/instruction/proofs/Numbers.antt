@@ -69,7 +69,7 @@ refused-good r e = let z : ◌≡◌ {A = ℕ} 0 1 = cc in absurd (omega arith)
 module _ (row : List ℕ) where
   by_read : eqb (length row) row_width ≡ true → is_mark (at row 0) ≡ false → (r : Read) → read_of row 0 ≡ r → form_verdict (held_form (coded_of r)) ≡ verdict.Good → Accepted row
   unfolding verdict_of
-  by_read l m (read.Item (item.Instruction v)) e g = record { long = l; no-mark = m; instruction = v; read = e; encodes = g }
+  by_read l m (read.Item (item.Instruction v)) e g = record { long = l; no_mark = m; instruction = v; read = e; encodes = g }
   by_read l m (read.Item (item.Label a b)) e g = refused-good Row g
   by_read l m (read.Item (item.Jump c a b)) e g = refused-good Row g
   by_read l m (read.Item (item.LoopBegin c n)) e g = refused-good Row g
@@ -85,7 +85,7 @@ module _ (row : List ℕ) where
 
   good-accepted : (form_verdict (form_at row) ≡ verdict.Good) ↔ Accepted row
   unfolding form_at verdict_of
-  good-accepted = (by_tests (eqb (length row) row_width) (is_mark (at row 0)) refl refl, (λ a. rw (a.long, a.no-mark, a.read) a.encodes))
+  good-accepted = (by_tests (eqb (length row) row_width) (is_mark (at row 0)) refl refl, (λ a. rw (a.long, a.no_mark, a.read) a.encodes))
 
   -- ---- THE THEOREMS
   module _ {told : Told} {places : List ℕ} (c : Encodes row told places) where

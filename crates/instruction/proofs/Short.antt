@@ -53,7 +53,7 @@ module _ (row : List ℕ) (n : length row ≡ 17) (mark : is_mark (at row 0) ≡
       inr
       (record {
         form = k.form;
-        form-is = form_of (ap (λ (r : List ℕ). held_form (coded_of (read_of r 0))) (sym w) ∙ ap (λ (r : Read). held_form (coded_of r)) (k.seen.reads 0) ∙ k.seen.encodes);
+        form_is = form_of (ap (λ (r : List ℕ). held_form (coded_of (read_of r 0))) (sym w) ∙ ap (λ (r : Read). held_form (coded_of r)) (k.seen.reads 0) ∙ k.seen.encodes);
         encodes = k.encodes;
         counted = omega (arith, on, first);
         places = k.parcels ∙ ap₂ (λ (l : List ℕ) (a : ℕ). sets l a (form_parcels k.form)) h.before.1 first;
@@ -72,7 +72,7 @@ settled form.Leaf = refl
 settled (form.Refused why) = refl
 
 pub answers : {row q : List ℕ} {count : ℕ} → Shown row (replicate 6 0) count q → (answered (Accepted count) ≡ (form_answer (form_at row)).told) × (q ≡ (form_answer (form_at row)).places)
-answers {row} {q} {count} h = rw h.form-is (rw (h.encodes, h.counted), h.places ∙ settled h.form)
+answers {row} {q} {count} h = rw h.form_is (rw (h.encodes, h.counted), h.places ∙ settled h.form)
 
 pub some-shown : {row p q : List ℕ} {count : ℕ} → (count ≡ 0 → ⊥) → ShortWay row p count q → Shown row p count q
 some-shown n (inl e) = absurd (n e)

@@ -32,7 +32,7 @@ form_at row =
 -- a row that holds an instruction that encodes
 pub record Accepted (row : List ℕ) : Type 0 where
   pub long : eqb (length row) row_width ≡ true
-  pub no-mark : is_mark (at row 0) ≡ false
+  pub no_mark : is_mark (at row 0) ≡ false
   pub instruction : VisaInstruction
   pub read : read_of row 0 ≡ read.Item (item.Instruction instruction)
   pub encodes : verdict_of instruction ≡ verdict.Good

@@ -9,7 +9,7 @@ use Rattle.instruction.specs.Instruction.{form_at}
 -- the parcels of the row's form, which encodes
 pub record Shown (row p : List ℕ) (count : ℕ) (q : List ℕ) : Type 0 where
   pub form : Form
-  pub form-is : form_at row ≡ form
+  pub form_is : form_at row ≡ form
   pub encodes : form_verdict form ≡ Good
   pub counted : count ≡ length (form_parcels form)
   pub places : q ≡ sets p 0 (form_parcels form)

@@ -51,7 +51,7 @@ pub six_are_one : (rest : List ℕ) → Parcels rest → Front (0x4dfe ∷ 0x0e3
 unfolding known_at
 six_are_one rest p = front-is (leaf_parcels ++ rest) (parcels-join leaf_parcels rest (form-parcels form.Leaf) p)
 
--- "its first two alone are a pre_modify load of I12"
+-- "its first two alone are a pre-modify load of I12"
 pub two-alone : Front (0x4dfe ∷ 0x0e3f ∷ []) (front.known 2 (21 ∷ 28 ∷ 6 ∷ 7 ∷ replicate 13 0))
 two-alone = rw (← leaf-cut) (front-is (0x4dfe ∷ 0x0e3f ∷ []) two)
   where

@@ -146,7 +146,7 @@ abbrev pub dual_fine : Held → ℕ → ℕ → ℕ → ℕ → Bool
 dual_fine h dmd dmdreg pmd pmdreg =
     h.fine && (not (eqb dmd 0 && writes_to h dmdreg) && not (eqb pmd 0 && (writes_to h pmdreg || (eqb dmd 0 && eqb dmdreg pmdreg))))
 
--- a post_modify access (u 1) or a store (d 1) of a register of the DAG that addresses it (g 1: DAG2), and a load into what the compute writes
+-- a post-modify access (u 1) or a store (d 1) of a register of the DAG that addresses it (g 1: DAG2), and a load into what the compute writes
 abbrev pub memory_fine : Held → ℕ → ℕ → ℕ → ℕ → Bool
 memory_fine h u g d code =
     h.fine && (ltb code 0x60 && (not ((eqb u 1 || eqb d 1) && in_dag code (eqb g 1)) && not (eqb d 0 && (ltb code 16 && writes_to h code))))

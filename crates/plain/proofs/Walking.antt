@@ -114,10 +114,10 @@ module _ (k : Kernel) (r : Rooms) (lent : Lent) where
             rw (a.before, e)
             (let u = g in let v = f in let w = one_way (it i) in
             record {
-              place = omega (arith, rooming.parcels-few, g.parcels);
-              labels = omega (arith, rooming.labels-few, g.labels);
-              jumps = omega (arith, rooming.jumps-few, g.jumps);
-              opens = omega (arith, rooming.loops-few, f.loops);
+              place = omega (arith, rooming.parcels_few, g.parcels);
+              labels = omega (arith, rooming.labels_few, g.labels);
+              jumps = omega (arith, rooming.jumps_few, g.jumps);
+              opens = omega (arith, rooming.loops_few, f.loops);
               closes = closes;
             })
           where
@@ -138,9 +138,9 @@ module _ (k : Kernel) (r : Rooms) (lent : Lent) where
             (record {
               label = λ l. omega (arith, rooming.labels_in, g.labels, labels-same);
               jump = λ l. omega (arith, rooming.jumps_in, g.jumps, jumps-same);
-              place-few = omega (arith, rooming.parcels-few, f.parcels);
-              labels-few = omega (arith, rooming.labels-few, f.labels);
-              jumps-few = omega (arith, rooming.jumps-few, f.jumps);
+              place_few = omega (arith, rooming.parcels_few, f.parcels);
+              labels_few = omega (arith, rooming.labels_few, f.labels);
+              jumps_few = omega (arith, rooming.jumps_few, f.jumps);
             })
 
         pub along_next : {b' : Before} (then : Lent) → Entered x i b now then → b' ≡ passed b (about x) → Along (i + 1) b' then
@@ -193,15 +193,15 @@ check-fine rows names r lent rooming few {i} now a h e =
       closed = f.closed;
       place_is = refl;
       depth_is = refl;
-      place-few = omega (arith, rooming.parcels-few, f.parcels);
-      parcels-few = rooming.parcels-few;
+      place_few = omega (arith, rooming.parcels_few, f.parcels);
+      parcels_few = rooming.parcels_few;
       labels_in = f.labels;
-      labels-few = rooming.labels-few;
+      labels_few = rooming.labels_few;
       entries_in = omega (arith, rooming.labels_in, f.labels, l);
       entries = entries_in k i now.labels t (row_fine rows names);
-      jumps-few = omega (arith, rooming.jumps-few, f.jumps);
-      waits-few = rooming.jumps-few;
-      depth-few = omega (arith, rooming.loops-few, f.loops);
-      loops-few = rooming.loops-few;
+      jumps_few = omega (arith, rooming.jumps_few, f.jumps);
+      waits_few = rooming.jumps_few;
+      depth_few = omega (arith, rooming.loops_few, f.loops);
+      loops_few = rooming.loops_few;
       fine = row_fine rows names i;
     })

@@ -84,10 +84,10 @@ module _ (k : Kernel) (few : k.n ≤ 4194304) {r : Rooms} (lent : Lent) (e : r �
               few = few;
               passed = g.passes;
               closed = g.closed;
-              count-is = rw (y.before, w) refl;
+              count_is = rw (y.before, w) refl;
               held = subst (λ (i : ℕ). HoldsLabels it i ls) w (subst (HoldsLabels it t) (sym y.labels) (labels-held k (labels_at k lent.labels) (λ q. refl) t labels-room));
               labels_in = rw y.before (omega (arith, l, labels-room));
-              parcels-few = rooming.parcels-few;
+              parcels_few = rooming.parcels_few;
               parcels_in = rooming.parcels_in;
             };
       }

@@ -97,8 +97,8 @@ module _ (k : Kernel) {ls : List ℕ} {count room : ℕ} (w : Writable k ls coun
   pub place_in : place it i + size (it i) ≤ room
   place_in = let u = total-up size it (suc i) n before in let v = f.parcels in omega (arith, w.parcels_in)
 
-  pub place-few : place it i + size (it i) ≤ 16777216
-  place-few = let u = total-up size it (suc i) n before in let v = f.parcels in omega (arith, w.parcels-few)
+  pub place_few : place it i + size (it i) ≤ 16777216
+  place_few = let u = total-up size it (suc i) n before in let v = f.parcels in omega (arith, w.parcels_few)
 
   -- a form that is what the item leaves, and its verdict
   wrote_by : (x : Coded) (g : Form) {v : Verdict} {ps ps' : List ℕ} → it i ≡ x → form_verdict g ≡ reaches k i x → (form_verdict g ≡ Good → form_parcels g ≡ (left k i x).parcels)
@@ -120,7 +120,7 @@ module _ (k : Kernel) {ls : List ℕ} {count room : ℕ} (w : Writable k ls coun
   -- ---- a jump
   module _ {c : Condition} {a b : ℕ} (e : it i ≡ Jump c a b) where
     looked : lookup names ls a b count ≡ placed it (labelled k a b n)
-    looked = ap (lookup names ls a b) w.count-is ∙ lookup-is k n ls w.held a b (single k r n w.passed)
+    looked = ap (lookup names ls a b) w.count_is ∙ lookup-is k n ls w.held a b (single k r n w.passed)
 
     abbrev word : Form
     word = jump_word c (place it i) a b (lookup names ls a b count)

@@ -74,16 +74,16 @@ pub record CheckFine (rows names : List ℕ) (r : Rooms) (ls : List ℕ) (b : Be
   pub closed : Closed (row_at rows names) i
   pub place_is : b.place ≡ place (row_at rows names) i
   pub depth_is : b.depth ≡ nest (row_at rows names) i
-  pub place-few : b.place ≤ most_parcels
-  pub parcels-few : r.parcels ≤ most_parcels
+  pub place_few : b.place ≤ most_parcels
+  pub parcels_few : r.parcels ≤ most_parcels
   pub labels_in : b.labels ≤ r.labels
-  pub labels-few : r.labels ≤ most_entries
+  pub labels_few : r.labels ≤ most_entries
   pub entries_in : label_width * b.labels ≤ length ls
   pub entries : Entries names ls b.labels
-  pub jumps-few : b.jumps ≤ most_entries
-  pub waits-few : r.jumps ≤ most_entries
-  pub depth-few : b.depth ≤ most_loops
-  pub loops-few : r.loops ≤ most_loops
+  pub jumps_few : b.jumps ≤ most_entries
+  pub waits_few : r.jumps ≤ most_entries
+  pub depth_few : b.depth ≤ most_loops
+  pub loops_few : r.loops ≤ most_loops
   pub fine : CodedFine (length names) x
 
 -- the entry of an item at a place
@@ -96,9 +96,9 @@ jump_of p row x = cond (eqb (is_jump x) 1) (p ∷ row ∷ []) []
 pub record EnterFine (x : Coded) (b : Before) (lent : Lent) : Type 0 where
   pub label : is_label x ≡ 1 → label_width * b.labels + label_width ≤ length lent.labels
   pub jump : is_jump x ≡ 1 → jump_width * b.jumps + jump_width ≤ length lent.jumps
-  pub place-few : b.place ≤ most_parcels
-  pub labels-few : b.labels ≤ most_entries
-  pub jumps-few : b.jumps ≤ most_entries
+  pub place_few : b.place ≤ most_parcels
+  pub labels_few : b.labels ≤ most_entries
+  pub jumps_few : b.jumps ≤ most_entries
 
 pub record Entered (x : Coded) (row : ℕ) (b : Before) (lent left : Lent) : Type 0 where
   pub labels : left.labels ≡ sets lent.labels (label_width * b.labels) (label_of b.place x)
@@ -186,16 +186,16 @@ pub record Writable (k : Kernel) (ls : List ℕ) (count room : ℕ) : Type 0 whe
   pub few : k.n ≤ most_rows
   pub passed : (q : ℕ) → q < k.n → verdict_at k rooms q ≡ Good
   pub closed : nest k.it k.n ≡ 0
-  pub count-is : count ≡ total is_label k.it k.n
+  pub count_is : count ≡ total is_label k.it k.n
   pub held : HoldsLabels k.it k.n ls
   pub labels_in : label_width * count ≤ length ls
-  pub parcels-few : rooms.parcels ≤ most_parcels
+  pub parcels_few : rooms.parcels ≤ most_parcels
   pub parcels_in : rooms.parcels ≤ room
 
 pub record WriteFine (k : Kernel) (ls : List ℕ) (count room i at : ℕ) (x : Coded) : Type 0 where
   pub writable : Writable k ls count room
   pub before : i < k.n
-  pub at-is : at ≡ place k.it i
+  pub at_is : at ≡ place k.it i
   pub is : x ≡ k.it i
 
 pub record Wrote (k : Kernel) (i : ℕ) (ps : List ℕ) (r : Verdict) (ps' : List ℕ) : Type 0 where

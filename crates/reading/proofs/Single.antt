@@ -46,7 +46,7 @@ module _ {parcels rows places : List ℕ} where
       let verdict-same = e.2 in (
         x.answer ∙ ap₂ told_rows verdict-same (ap length places_same) ∙ sym y.answer,
         x.rows_left ∙ ap₂ (λ (v : Verdict) (l : List ℕ). put v l rows) verdict-same rows_same ∙ sym y.rows_left,
-        x.places-left ∙ ap₂ (λ (v : Verdict) (l : List ℕ). put v l places) verdict-same places_same ∙ sym y.places-left,
+        x.places_left ∙ ap₂ (λ (v : Verdict) (l : List ℕ). put v l places) verdict-same places_same ∙ sym y.places_left,
       )
 
   -- number 0 exactly where the parcels can be read to their end in the room lent

@@ -90,7 +90,7 @@ module _ {parcels rows₀ places₀ : List ℕ} where
           new_places = w.new_places;
           goes = rw (append-nil, append-nil) at (w.goes [] [] v g);
           rows_left = w.rows-here;
-          places-left = w.places-here;
+          places_left = w.places-here;
         }
 
     -- at the end of the parcels
@@ -147,9 +147,9 @@ module _ {parcels rows₀ places₀ rows places : List ℕ} {walk : Walk} (w : W
         new_places = w.new_places;
         verdict = Good;
         goes = rw e at w.goes;
-        answer = rw w.places-left.long;
+        answer = rw w.places_left.long;
         rows_left = rw w.rows_left.long w.rows_left.here;
-        places-left = rw w.places-left.long w.places-left.here;
+        places_left = rw w.places_left.long w.places_left.here;
       }
 
   pub reads-refused : {r : Refusal} {rows' places' : List ℕ} → walk.verdict ≡ Refused r → Wiped rows (walk.done * row_width) rows' → Wiped places walk.done places'
@@ -162,5 +162,5 @@ module _ {parcels rows₀ places₀ rows places : List ℕ} {walk : Walk} (w : W
         goes = rw e at w.goes;
         answer = refl;
         rows_left = rw (w.rows_left.long, ← begins-past w.rows_left) wiped-rows.here;
-        places-left = rw (w.places-left.long, ← begins-past w.places-left) wiped-places.here;
+        places_left = rw (w.places_left.long, ← begins-past w.places_left) wiped-places.here;
       }

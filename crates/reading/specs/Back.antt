@@ -42,4 +42,4 @@ pub record ReadsBack (parcels rows places : List ℕ) (told : ToldRows) (rows' p
   pub goes : Goes (room_in rows places) 0 0 parcels new_rows new_places verdict
   pub answer : told ≡ told_rows verdict (length new_places)
   pub rows_left : rows' ≡ put verdict new_rows rows
-  pub places-left : places' ≡ put verdict new_places places
+  pub places_left : places' ≡ put verdict new_places places

@@ -15,4 +15,4 @@ pub record WalksBack (parcels rows places : List ℕ) (walk : Walk) (rows' place
   pub new_places : List ℕ
   pub goes : Goes (room_in rows places) 0 0 parcels new_rows new_places walk.verdict
   pub rows_left : Begins rows new_rows (walk.done * row_width) rows'
-  pub places-left : Begins places new_places walk.done places'
+  pub places_left : Begins places new_places walk.done places'

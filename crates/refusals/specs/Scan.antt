@@ -56,8 +56,8 @@ module _ {X : Type 0} (chk : ℕ → X → Verdict) (nxt : ℕ → X → X) (x�
           end = rw add-one (sym (rw (peel n i h, q) at (sym g.end)));
         }
 
-    pub going-stop : i < n → {r : Refusal} → chk i x ≡ Refused r → {y : X} → y ≡ x → Came n (Refused r) i y
-    going-stop h {r} c e =
+    pub going_stop : i < n → {r : Refusal} → chk i x ≡ Refused r → {y : X} → y ≡ x → Came n (Refused r) i y
+    going_stop h {r} c e =
         let q : chk i (scan_at i) ≡ Refused r = at_chk ∙ c in
         let z : scan_end n 0 ≡ i = sym g.end ∙ rw (peel n i h, q) in
         record { outcome = sym (sym g.outcome ∙ rw (peel n i h, q)); end = sym z; here = e ∙ g.here ∙ ap (λ (y : ℕ). scan_at y) (sym z) }

@@ -122,7 +122,7 @@ module _ (rows names : List ℕ) (lent : Lent) (t : Told) (x : Lent) (contract :
     left-rows = reads.rows_left ∙ ap₂ (λ (v : Verdict) (l : List ℕ). put v l rows₀) same.2 same.0
 
     left-places : places₁ ≡ walked.places' ++ drop (length walked.places') places₀
-    left-places = reads.places-left ∙ ap₂ (λ (v : Verdict) (l : List ℕ). put v l places₀) same.2 same.1
+    left-places = reads.places_left ∙ ap₂ (λ (v : Verdict) (l : List ℕ). put v l places₀) same.2 same.1
 
     pub kernel_returns : Returned rows names rows₁ places₁
     kernel_returns i h e =

@@ -58,11 +58,11 @@ module _ (k : Kernel) (r : Rooms) (valid : Valid k r) where
   outside i h c f =
       ⊎_elim (λ d. let x = inside i h d c in absurd (f x.start x.end x.pair x.after x.before)) (λ d. le-ltb 0 (nest it i) d) (order 0 (nest it i))
 
-  pub no-branch : (i : ℕ) (v : Coding) → i < n → it i ≡ Instruction v → (is_branch v.kind && ltb 0 (nest it i)) ≡ true → ⊥
-  no-branch i v h e t =
+  pub no_branch : (i : ℕ) (v : Coding) → i < n → it i ≡ Instruction v → (is_branch v.kind && ltb 0 (nest it i)) ≡ true → ⊥
+  no_branch i v h e t =
       let y = and_both _ _ t in
       let x = inside i h (ltb-true 0 (nest it i) y.1) (ap (λ (s : Coded). (about s).closes) e) in
-      true_false y.0 (valid.rule3.no-branch x.start x.end i v x.pair x.after x.before e)
+      true_false y.0 (valid.rule3.no_branch x.start x.end i v x.pair x.after x.before e)
 
   -- ---- a loop end and its start
   module _ (i : ℕ) (h : i < n) (e : it i ≡ LoopEnd) where

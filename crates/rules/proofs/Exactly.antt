@@ -26,7 +26,7 @@ use Rattle.rules.specs.WhichRow.{RowsPass}
 use Rattle.rules.proofs.Rows.{JumpsReach, rule1}
 use Rattle.rules.proofs.Labels.{rule2, unique, jump-reaches}
 use Rattle.rules.proofs.Loops.{rule3, rule4, rule5}
-use Rattle.rules.proofs.Ends.{outside, no-branch, end-passes}
+use Rattle.rules.proofs.Ends.{outside, no_branch, end-passes}
 use Rattle.rules.proofs.Rooms.{rule6, room}
 
 abbrev opens : Coded → ℕ
@@ -53,7 +53,7 @@ module _ (k : Kernel) (r : Rooms) (named : Named k) where
     no_refusal : (i : ℕ) → i < n → (x : Coded) → it i ≡ x → AllGood (faults k r i x)
     no_refusal i h (Instruction v) e =
         let u = room it n size i r.parcels (size (Instruction v)) h (omega (arith, valid.rule6.parcels)) (ap size e) in
-        (good-when _ _ (not_so _ (no-branch k r valid i v h e)), (valid.rule1.encodes i (omega arith) v e, (good-when _ _ u, tt)))
+        (good-when _ _ (not_so _ (no_branch k r valid i v h e)), (valid.rule1.encodes i (omega arith) v e, (good-when _ _ u, tt)))
     no_refusal i h (Label a b) e =
         let o = outside k r valid i h (ap closes e) (λ s t p u v. valid.rule3.no_label s t i a b p u v e) in
         let u = room it n is_label i r.labels 1 h valid.rule6.labels (ap is_label e) in

@@ -35,7 +35,7 @@ module _ (k : Kernel) (r : Rooms) (rows : RowsPass k r) where
     one = opens-entry (it b) (pair_open k p).opens
 
     closing : AllGood (faults k r e LoopEnd)
-    closing = passed k r rows e p.before-end LoopEnd p.closes
+    closing = passed k r rows e p.before_end LoopEnd p.closes
 
     pub loop-form : form_verdict (loop_form p.count p.mode (pos (last_at it e) -ℤ pos (address it b))) ≡ Good
     loop-form =
@@ -73,11 +73,11 @@ module _ (k : Kernel) (r : Rooms) (rows : RowsPass k r) where
         matched = λ e h z. let w : nest it e ≡ 0 → ⊥ = eqb-false _ _ (when-good _ _ (passed k r rows e h LoopEnd z).0) in omega arith;
         closed = omega arith;
         no_label = λ b e q a c p u v z.
-            outside q (when-good _ _ (passed k r rows q (omega (arith, p.before-end)) (Label a c) z).0) b e p u v;
+            outside q (when-good _ _ (passed k r rows q (omega (arith, p.before_end)) (Label a c) z).0) b e p u v;
         no_jump = λ b e q c a d p u v z.
-            outside q (when-good _ _ (passed k r rows q (omega (arith, p.before-end)) (Jump c a d) z).0) b e p u v;
-        no-branch = λ b e q w p u v z.
-            not_so _ (λ t. outside q (and_first _ _ t (when-good _ _ (passed k r rows q (omega (arith, p.before-end)) (Instruction w) z).0)) b e p u v);
+            outside q (when-good _ _ (passed k r rows q (omega (arith, p.before_end)) (Jump c a d) z).0) b e p u v;
+        no_branch = λ b e q w p u v z.
+            not_so _ (λ t. outside q (and_first _ _ t (when-good _ _ (passed k r rows q (omega (arith, p.before_end)) (Instruction w) z).0)) b e p u v);
         some = some;
       }
 
@@ -91,7 +91,7 @@ module _ (k : Kernel) (r : Rooms) (rows : RowsPass k r) where
       record {
         apart = λ b e d f q p o u v.
             let s : entries it e ≡ entries it f = sym u.none_after ∙ v.none_after in
-            let w = same_row e f (λ l. alone e f l o.before-end p.closes o.closes s) (λ l. alone f e l p.before-end o.closes p.closes (sym s)) in
+            let w = same_row e f (λ l. alone e f l o.before_end p.closes o.closes s) (λ l. alone f e l p.before_end o.closes p.closes (sym s)) in
             omega arith;
         tail = λ b e q p u v o t. tail b e p q u v o (omega arith);
       }

@@ -28,7 +28,7 @@ module _ (k : Kernel) where
         opens = x.2;
         closes = closes-end (it e) c;
         order = o.before;
-        before-end = h;
+        before_end = h;
         level = l;
         deep = o.deep;
       }

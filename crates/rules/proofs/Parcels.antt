@@ -87,7 +87,7 @@ module _ (k : Kernel) (lent : Lent) (named : Named k) (good : verdict k (rooms_o
   loop b e q o m =
       let u : last_at it e ≡ address it q = last-is it q e m.before m.entry m.none_after in
       let f : closer it n b ≡ at e =
-      closer-is it n b e (λ x h c. valid.rule3.matched x h (closes-end (it x) c)) o.before-end
+      closer-is it n b e (λ x h c. valid.rule3.matched x h (closes-end (it x) c)) o.before_end
       (ap (λ (y : Coded). (about y).closes) o.closes) (pair_open k o) o.level in
       let w =
       loop-word o.count o.mode _
@@ -96,7 +96,7 @@ module _ (k : Kernel) (lent : Lent) (named : Named k) (good : verdict k (rooms_o
         word = w.0;
         is = w.1;
         stands =
-            at_place b (omega (arith, o.order, o.before-end)) _ o.opens
+            at_place b (omega (arith, o.order, o.before_end)) _ o.opens
             ∙ ap (loop_parcels it o.count o.mode b) f
             ∙ ap (λ (x : ℕ). settled (loop_form o.count o.mode (pos x -ℤ pos (address it b)))) u
             ∙ ap settled w.1;

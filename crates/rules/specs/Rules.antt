@@ -50,7 +50,7 @@ module _ (k : Kernel) where
     pub opens : it b ≡ LoopBegin count mode
     pub closes : it e ≡ LoopEnd
     pub order : b < e
-    pub before-end : e < n
+    pub before_end : e < n
     pub level : nest it e ≡ nest it b + 1
     pub deep : (q : ℕ) → b < q → q ≤ e → nest it b < nest it q
 
@@ -68,7 +68,7 @@ module _ (k : Kernel) where
     pub closed : nest it n ≡ 0
     pub no_label : (b e q a c : ℕ) → Pair b e → b < q → q < e → it q ≡ Label a c → ⊥
     pub no_jump : (b e q : ℕ) (c : Condition) (a d : ℕ) → Pair b e → b < q → q < e → it q ≡ Jump c a d → ⊥
-    pub no-branch : (b e q : ℕ) (c : Coding) → Pair b e → b < q → q < e → it q ≡ Instruction c → is_branch c.kind ≡ false
+    pub no_branch : (b e q : ℕ) (c : Coding) → Pair b e → b < q → q < e → it q ≡ Instruction c → is_branch c.kind ≡ false
     pub some : (b e : ℕ) → Pair b e → Body b e
 
   -- row q is the last instruction before row e: as many stand before e as up to q

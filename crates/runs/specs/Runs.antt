@@ -89,6 +89,6 @@ pub record Skimming (rows : List ℕ) (room : ℕ) (x : Run) (lent : ℕ) : Type
   pub few : row_count rows ≤ most_rows
   pub row_within : x.row ≤ row_count rows
   pub at_in : x.at ≤ room
-  pub room-few : room ≤ most_parcels
-  pub room-lent : room ≤ lent
-  pub count-few : x.count ≤ most_parcels
+  pub room_few : room ≤ most_parcels
+  pub room_lent : room ≤ lent
+  pub count_few : x.count ≤ most_parcels

@@ -62,14 +62,14 @@ pub record AimFine (ns ls : List ℕ) (n p room : ℕ) : Type 0 where
   pub labels_in : label_width * n ≤ length ls
   pub entries : Entries ns ls n
   pub jump_in : p + 3 ≤ room
-  pub jump-few : p ≤ most_parcels
+  pub jump_few : p ≤ most_parcels
 
 pub record AimsFine (k : Kernel) (ls : List ℕ) (n : ℕ) (js : List ℕ) (count room : ℕ) : Type 0 where
   pub labels_in : label_width * n ≤ length ls
   pub entries : Entries k.names ls n
   pub jumps_in : jump_width * count ≤ length js
   pub places_in : (q : ℕ) → q < count → get_or js (jump_width * q) 0 + 3 ≤ room
-  pub places-few : (q : ℕ) → q < count → get_or js (jump_width * q) 0 ≤ most_parcels
+  pub places_few : (q : ℕ) → q < count → get_or js (jump_width * q) 0 ≤ most_parcels
   pub rows_in : (q : ℕ) → q < count → get_or js (jump_width * q + 1) 0 < k.n
   pub rows_few : k.n ≤ most_rows
 
@@ -78,6 +78,6 @@ pub record Used (at n m p l j : ℕ) : Type 0 where
   pub parcels_in : at ≤ p
   pub labels_in : label_width * n ≤ l
   pub jumps_in : jump_width * m ≤ j
-  pub parcels-few : at ≤ most_parcels
-  pub labels-few : n ≤ most_entries
-  pub jumps-few : m ≤ most_entries
+  pub parcels_few : at ≤ most_parcels
+  pub labels_few : n ≤ most_entries
+  pub jumps_few : m ≤ most_entries

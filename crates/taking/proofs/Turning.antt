@@ -27,7 +27,7 @@ use Rattle.checks.specs.Rooming.{RoomingIn}
 use Rattle.machine.specs.declared.Step.{Step}
 use Rattle.machine.specs.declared.Step.TheVariants.{Stop}
 use Rattle.machine.specs.Machine.{Mem, mem_of, check, next, top_of, step_row, step_by, step_state, loops_by, advanced, with_parcels, GoodFor}
-use Rattle.refusals.specs.Scan.{scan_end, Going, Came, going_start, going_next, going-stop, going_end}
+use Rattle.refusals.specs.Scan.{scan_end, Going, Came, going_start, going_next, going_stop, going_end}
 use Rattle.machine.specs.Fold.{row_chk, zero_state, mem_at, row_next_mem}
 use Rattle.machine.specs.Finish.{level, close_verdict, closed}
 use Rattle.agrees.proofs.Along.{mem_is}
@@ -150,7 +150,7 @@ module _ (rs ns : List ℕ) (r : Rooms) (lent₀ : Lent) where
           let step : o.step ≡ Stop why = rw v at d.answer in
           let on : x ≡ record { state = t.state; row = t.row; verdict = Refused why } = taking ∙ ap (λ (b : Turned). b.taking) (as_turned step) in
           let u : mem_of x.state lent' ≡ M = mem_eq (ap (λ (b : Taking). b.state) on) (rw v at d.parcels) (rw v at d.labels) (rw v at d.jumps) (as_looped step) in
-          let c = going-stop C N m₀ a.going few v u in
+          let c = going_stop C N m₀ a.going few v u in
           record {
             why = why;
             stopped = ap (λ (b : Taking). b.verdict) on;

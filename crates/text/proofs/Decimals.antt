@@ -56,8 +56,8 @@ pub detail-short : (z : ℤ) → length (detail z) ≤ 22
 detail-short z = omega (arith, signed-short z)
 
 -- a machine's number takes no more than twenty
-pub places-few : (n k : ℕ) → n < 2 ^ 64 → IsDigitCount 10 1 n k → k ≤ 20
-places-few n k h w = by (leb k 20) refl
+pub places_few : (n k : ℕ) → n < 2 ^ 64 → IsDigitCount 10 1 n k → k ≤ 20
+places_few n k h w = by (leb k 20) refl
   where
     by : (t : Bool) → leb k 20 ≡ t → k ≤ 20
     by true e = leb-true k 20 e

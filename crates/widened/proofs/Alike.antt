@@ -52,7 +52,7 @@ module _ (k l : Kernel) (a : Alike k.it l.it) (n : k.n ≡ l.n) where
   pair-alike b e p =
       let N = nest-alike k.it l.it a in
       let o = pair_open k p in
-      pair_of l b e (rw (sym n) p.before-end) (sym (a.closes e) ∙ ap (λ (x : Coded). (about x).closes) p.closes)
+      pair_of l b e (rw (sym n) p.before_end) (sym (a.closes e) ∙ ap (λ (x : Coded). (about x).closes) p.closes)
       (sym (N e) ∙ p.level ∙ ap (λ (m : ℕ). m + 1) (N b))
       (record {
         opens = sym (a.opens b) ∙ o.opens;

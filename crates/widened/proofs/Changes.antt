@@ -43,7 +43,7 @@ module _ (rows names : List ℕ) (passes : Passes read_verdict rows names) where
   changed-keeps i h c =
       let w = (changes-exactly rows names i).0 c in
       let r = readable (read_of (row_of rows i) (length names)) (passes.each i h) in
-      twin-keeps (row_of rows i) (length names) r.0 r.1 w.has-twin w.row-encodes
+      twin-keeps (row_of rows i) (length names) r.0 r.1 w.has-twin w.row_encodes
 
   pub copied-twin : (i : ℕ) → changes rows names i ≡ true → copied rows names i ≡ twin (row_of rows i)
   copied-twin i c = pick_true (changes rows names i) (twin (row_of rows i)) (row_of rows i) c
@@ -98,15 +98,15 @@ module _ (rows names : List ℕ) (passes : Passes read_verdict rows names) where
   changed-width i h c =
       let k = changed-keeps i h c in
       record {
-        entry = rw k.is-before refl;
-        short = rw k.is-before k.short;
-        full = rw (ap comes (wide_row i h ∙ copied-twin i c), k.is-after) k.full;
+        entry = rw k.is_before refl;
+        short = rw k.is_before k.short;
+        full = rw (ap comes (wide_row i h ∙ copied-twin i c), k.is_after) k.full;
       }
 
   changed-counts : (i : ℕ) → i < row_count rows → changes rows names i ≡ true → Counts (row_at rows names i) (row_at wide_rows names i)
   changed-counts i h c =
       let k = changed-keeps i h c in
-      rw (ap comes (wide_row i h ∙ copied-twin i c), k.is-before, k.is-after) (refl, refl, refl)
+      rw (ap comes (wide_row i h ∙ copied-twin i c), k.is_before, k.is_after) (refl, refl, refl)
 
   each_counts : (i : ℕ) → Counts (row_at rows names i) (row_at wide_rows names i)
   each_counts i = ⊎_elim (λ h. go h (changes rows names i) refl) (λ h. same-counts (past-item i h)) (order i (row_count rows))
@@ -123,5 +123,5 @@ module _ (rows names : List ℕ) (passes : Passes read_verdict rows names) where
   wide-passes = record { formed = rw wide-length passes.formed; each = λ i h. go i (rw (sym wide-count) h) (changes rows names i) refl }
     where
       go : (i : ℕ) → i < row_count rows → (b : Bool) → changes rows names i ≡ b → read_verdict (row_at wide_rows names i) ≡ Good
-      go i h true c = let k = changed-keeps i h c in rw (ap comes (wide_row i h ∙ copied-twin i c), k.is-after) refl
+      go i h true c = let k = changed-keeps i h c in rw (ap comes (wide_row i h ∙ copied-twin i c), k.is_after) refl
       go i h false c = rw (stays-item i h c) (passes.each i h)

@@ -119,8 +119,8 @@ module _ (rows names copy list : List ℕ) {t : ToldWidened} {copy' list' : List
         (λ i h c. rw (copy_at i h ∙ copied-twin rows names passes i c) (changed-keeps rows names passes i h c));
     stays = λ i h none.
         copy_at i h ∙ copied_self rows names passes i (not_so _ (λ c. let x = (listed-exactly i h).0 ((changes-exactly rows names i).0 c) in none x.0 x.1 x.2));
-    copy-past = left_behind (wide_rows rows names passes) copy copy' (length rows) (wide-length rows names passes) (widened-copy rows names copy list w z);
-    list-past = left_behind (pairs_of rows names) list list' (t.changes * change_width)
+    copy_past = left_behind (wide_rows rows names passes) copy copy' (length rows) (wide-length rows names passes) (widened-copy rows names copy list w z);
+    list_past = left_behind (pairs_of rows names) list list' (t.changes * change_width)
         (pairs-length (changes rows names) (listed rows names) (listed-length rows names) (row_count rows) ∙ ap (λ (n : ℕ). n * 2) (sym count))
         (widened-list rows names copy list w z);
   }

@@ -47,7 +47,7 @@ module _ (rows names : List ℕ) (read : Passes read_verdict rows names) (only :
     q = s.short.row
 
     within : q < row_count rows
-    within = let e = wide-count rows names read in let h = s.short.pair.before-end in let u = s.short.before in omega arith
+    within = let e = wide-count rows names read in let h = s.short.pair.before_end in let u = s.short.before in omega arith
 
     -- a changed row takes three parcels
     was_changed : changes rows names q ≡ true → ⊥
@@ -75,7 +75,7 @@ module _ (rows names : List ℕ) (read : Passes read_verdict rows names) (only :
           paired = only.paired;
           in_tail = tail;
           has-twin = only.twin_or_full q tail (sym (ap is_entry same) ∙ s.short.entry) good (λ e. s.short.short (ap size same ∙ e));
-          row-encodes = good;
+          row_encodes = good;
         }))
         c
 

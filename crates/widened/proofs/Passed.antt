@@ -39,7 +39,7 @@ module _ (k : Kernel) (lent : Lent) where
   -- where every row passes
   all_pass : RowsPass k (rooms_of_lent lent) → {z : ℤ} → LatestShort k z → ShortPasses
   all_pass all {z} s =
-      let h = s.pair.before-end in
+      let h = s.pair.before_end in
       let u = s.before in
       record { detail = z; short = s; passes = all s.row (omega arith) }
 
@@ -49,8 +49,8 @@ module _ (k : Kernel) (lent : Lent) where
 
   up-pair : {m b e : ℕ} → m ≤ n → Pair (up_to m) b e → Pair k b e
   up-pair h p =
-      let l = p.before-end in
-      record { count = p.count; mode = p.mode; opens = p.opens; closes = p.closes; order = p.order; before-end = omega arith; level = p.level; deep = p.deep }
+      let l = p.before_end in
+      record { count = p.count; mode = p.mode; opens = p.opens; closes = p.closes; order = p.order; before_end = omega arith; level = p.level; deep = p.deep }
 
   abbrev up-short : {m : ℕ} {z : ℤ} → m ≤ n → LatestShort (up_to m) z → LatestShort k z
   up-short h s =
@@ -78,7 +78,7 @@ module _ (k : Kernel) (lent : Lent) where
 
     first_passes : {z : ℤ} → LatestShort (up_to (suc row)) z → ShortPasses
     first_passes {z} s =
-        let h = s.pair.before-end in
+        let h = s.pair.before_end in
         let u = s.before in
         record { detail = z; short = up-short f.within s; passes = f.earlier s.row (omega arith) }
 

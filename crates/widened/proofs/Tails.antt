@@ -77,7 +77,7 @@ module _ (k : Kernel) where
   of-tail : (i : ℕ) → InTail k i → tailed k i ≡ true
   of-tail i x =
       let e = x.end in
-      some-found (test i) n e x.pair.before-end
+      some-found (test i) n e x.pair.before_end
       (rw (x.pair.closes, lt-ltb i e x.before, pair-opener k x.pair, lt-ltb x.start i x.after, le-leb (entries it e) (entries it i + 11) x.near) refl)
 
   pub tailed-exactly : Paired k → (i : ℕ) → (tailed k i ≡ true) ↔ InTail k i
@@ -99,13 +99,13 @@ changes-exactly rows names i = (
         paired = paired;
         in_tail = (tailed-exactly (kernel_of rows names) paired i).0 e.1;
         has-twin = h.0;
-        row-encodes = if-good (encodes (row_at rows names i)) e.0;
+        row_encodes = if-good (encodes (row_at rows names i)) e.0;
       }),
   (λ w.
       rw (
         (pairs-exactly (kernel_of rows names)).1 w.paired,
         w.has-twin,
-        w.row-encodes,
+        w.row_encodes,
         (tailed-exactly (kernel_of rows names) w.paired i).1 w.in_tail,
       )),
 )

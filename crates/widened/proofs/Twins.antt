@@ -163,8 +163,8 @@ module _ (row : List ℕ) (names : ℕ) (x : Item) (readable : read_of row names
         before = short_move d u r i m;
         after = wide_move d u r i m;
         what = moved dm d r i m u;
-        is-before = old;
-        is-after = ap (λ (y : List ℕ). read_of y names) e ∙ wide_read row names d u f;
+        is_before = old;
+        is_after = ap (λ (y : List ℕ). read_of y names) e ∙ wide_read row names d u f;
         moves_before = short_moves d u;
         moves_after = wide_moves r i m d u good;
         short = short-few r i m d u good;
@@ -178,8 +178,8 @@ module _ (row : List ℕ) (names : ℕ) (x : Item) (readable : read_of row names
     before = visa.Nop;
     after = visa.WideNop;
     what = nothing;
-    is-before = readable ∙ sym checked.1 ∙ nop-item row k;
-    is-after = ap (λ (y : List ℕ). read_of y names) e ∙ nop-read row names;
+    is_before = readable ∙ sym checked.1 ∙ nop-item row k;
+    is_after = ap (λ (y : List ℕ). read_of y names) e ∙ nop-read row names;
     moves_before = nop;
     moves_after = wide-nop;
     short = omega arith;

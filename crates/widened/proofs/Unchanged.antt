@@ -45,7 +45,7 @@ module _ (rows names copy list : List ℕ) {t : ToldWidened} {copy' list' : List
         record {
           none = ap (λ (s : ToldWidened). s.changes) (widened-told rows names copy list w z) ∙ count_none (changes rows names) (row_count rows) none;
           same = widened-copy rows names copy list w z ∙ ap (λ (x : List ℕ). x ++ drop (length x) copy) c;
-          no-list = widened-list rows names copy list w z ∙ ap (λ (x : List ℕ). x ++ drop (length x) list) l;
+          no_list = widened-list rows names copy list w z ∙ ap (λ (x : List ℕ). x ++ drop (length x) list) l;
         }
 
   -- ---- whether loops pair is told

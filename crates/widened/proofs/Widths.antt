@@ -63,7 +63,7 @@ module _ (r : UniversalRegister) (i : IndexRegister) (m : ModifyRegister) where
   short-layout Load PreModify = refl
   short-layout Store PreModify = refl
 
-  -- 16 is not met: post_modify of a data register, or a store that meets no 8
+  -- 16 is not met: post-modify of a data register, or a store that meets no 8
   no_clash :
       (d : Direction) (u : Update) → is_pm i.0 ≡ false → (is_store d && in_dag r.0 false) ≡ false → (is_post u && leb 16 r.0) ≡ false →
       same_dag (access d u r i m) ≡ false

@@ -49,8 +49,8 @@ pub record KeepsMove (old wide : List ℕ) (names : ℕ) : Type 0 where
   pub before : VisaInstruction
   pub after : VisaInstruction
   pub what : Moved
-  pub is-before : read_of old names ≡ read.Item (item.Instruction before)
-  pub is-after : read_of wide names ≡ read.Item (item.Instruction after)
+  pub is_before : read_of old names ≡ read.Item (item.Instruction before)
+  pub is_after : read_of wide names ≡ read.Item (item.Instruction after)
   pub moves_before : Moves before what
   pub moves_after : Moves after what
   pub short : length (parcels_of before) < 3

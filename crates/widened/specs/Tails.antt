@@ -30,7 +30,7 @@ module _ (rows names : List ℕ) where
     pub paired : Paired (kernel_of rows names)
     pub in_tail : InTail (kernel_of rows names) i
     pub has-twin : has_twin (row_of rows i) ≡ true
-    pub row-encodes : encodes ((kernel_of rows names).it i) ≡ Good
+    pub row_encodes : encodes ((kernel_of rows names).it i) ≡ Good
 
   -- loops pair, and of the instructions in tails that encode only those of a kind that has a twin do not take three parcels
   pub record OnlyTwinsShort : Type 0 where

@@ -28,14 +28,14 @@ pub record OnlyListed (rows names copy list : List ℕ) (told : ToldWidened) (co
   pub keeps : (p : ℕ) → p < told.changes → KeepsMove (row_of rows (row_in list' p)) (row_of copy' (row_in list' p)) (length names)
   -- any other row stays, and so does what lies past the rows and past the pairs
   pub stays : (i : ℕ) → i < row_count rows → ((p : ℕ) → p < told.changes → row_in list' p ≡ i → ⊥) → row_of copy' i ≡ row_of rows i
-  pub copy-past : drop (length rows) copy' ≡ drop (length rows) copy
-  pub list-past : drop (told.changes * change_width) list' ≡ drop (told.changes * change_width) list
+  pub copy_past : drop (length rows) copy' ≡ drop (length rows) copy
+  pub list_past : drop (told.changes * change_width) list' ≡ drop (told.changes * change_width) list
 
 -- the list comes back as it is, and no change is listed
 pub record Unchanged (rows copy list : List ℕ) (told : ToldWidened) (copy' list' : List ℕ) : Type 0 where
   pub none : told.changes ≡ 0
   pub same : copy' ≡ rows ++ drop (length rows) copy
-  pub no-list : list' ≡ list
+  pub no_list : list' ≡ list
 
 -- the rows that a widening leaves in the copy
 abbrev pub widened_rows : List ℕ → List ℕ → List ℕ

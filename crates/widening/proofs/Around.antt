@@ -43,7 +43,7 @@ pub outer_gives_way :
 unfolding fields compute bounds_of said places_of check_of layout_of form_of mode_of count_of others instruction_of item_of read_of
 outer_gives_way = (refl, refl)
 
--- short kinds that stay; rows that do not encode: a post_modify load of I0, a pre_modify store of I0 by I1, an access by I8, by M8
+-- short kinds that stay; rows that do not encode: a post-modify load of I0, a pre-modify store of I0 by I1, an access by I8, by M8
 pub others_stay :
     Stays (loop ((16 ∷ 1 ∷ 2 ∷ []) ∷ (23 ∷ 1 ∷ 2 ∷ 3 ∷ []) ∷ (24 ∷ 1 ∷ 2 ∷ 3 ∷ []) ∷ []))
     × Stays (loop ((19 ∷ 0x10 ∷ 1 ∷ 1 ∷ []) ∷ (22 ∷ 0x10 ∷ 1 ∷ 1 ∷ []) ∷ (21 ∷ 1 ∷ 8 ∷ 1 ∷ []) ∷ (21 ∷ 1 ∷ 1 ∷ 8 ∷ []) ∷ []))

@@ -1,5 +1,5 @@
 -- Document 02, wish 6: "takes rows, copies them to a lent slice and, in the last 11 instructions of each loop body, turns Nop into WideNop, and
--- the post_modify and pre_modify DM moves into a memory move without compute. It lists each changed row number with the old kind, in row order."
+-- the post-modify and pre-modify DM moves into a memory move without compute. It lists each changed row number with the old kind, in row order."
 use Rattle.std.specs.Prelude.{◌≡◌, Bool, true, false, cond, not, ◌&&◌, ◌||◌, List, [], ◌∷◌, ◌++◌, ℕ, zero, suc, ◌+◌, ◌*◌, ◌/◌, ◌≤◌, pos, length, take, drop, replicate, eqb, ltb}
 use Rattle.refusals.specs.declared.Refusal.TheVariants.{NoRoomForRows}
 use Rattle.refusals.specs.declared.Verdict.{Verdict}
