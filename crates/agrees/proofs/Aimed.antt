@@ -10,12 +10,12 @@ use lib.ListN.{length, drop}
 use lib.Seq.{sets}
 use lib.Dec.{ltb}
 use borrow.Author.Tests.{lt-ltb, le-ltb}
-use Rattle.coded.specs.declared.Coded.TheVariants.{Instruction, Label, Jump, LoopBegin, LoopEnd}
+use Rattle.items.specs.declared.Item.TheVariants.{Instruction, Label, Jump, LoopBegin, LoopEnd}
+use Rattle.std.specs.Prelude.{Ok, Err}
+use Rattle.coded.specs.Coded.{Coded}
 use Rattle.encode.specs.Encoding.{jump_form, settled}
-use Rattle.coded.specs.declared.Coded.{Coded}
-use Rattle.coded.specs.declared.Coded.TheVariants as coded
 use Rattle.places.specs.Items.{Kernel, size, is_jump, total, place}
-use Rattle.places.specs.Left.{Lent, jump_parcels, left, gather}
+use Rattle.places.specs.Left.{Lent, jump_parcels, left, gather, zeros}
 use Rattle.places.specs.Looking.{Found, at, nothing, labelled, closer}
 use Rattle.places.specs.Verdict.{jump_offset}
 use Rattle.places.proofs.Emitted.{settled-three, emits}
@@ -23,7 +23,6 @@ use Rattle.prefixes.proofs.Tests.{order, same_row}
 use Rattle.prefixes.proofs.Single.{Single}
 use Rattle.prefixes.proofs.Totals.{total-up}
 use Rattle.tables.specs.Tables.{KernelFine}
-use Rattle.places.specs.Left.{zeros}
 use Rattle.machine.specs.Finish.{settles}
 use Rattle.settling.specs.Settling.{aim_form, aimed}
 use Rattle.tables.proofs.Which.{IsJump, jump_or_not, jump-row}
@@ -50,12 +49,12 @@ module _ (k : Kernel) where
 
   -- it differs from what stands there before only at jumps
   no_wait : (q : ℕ) (x : Coded) → is_jump x ≡ 0 → (left k q x).parcels ≡ words it (closer it n q) q x
-  no_wait q (Instruction v) e = refl
-  no_wait q (Label a b) e = refl
-  no_wait q (Jump c a b) e = absurd (omega arith)
-  no_wait q (LoopBegin c m) e = refl
-  no_wait q LoopEnd e = refl
-  no_wait q (coded.Refused why) e = refl
+  no_wait q (Ok (Instruction v)) e = refl
+  no_wait q (Ok (Label a b)) e = refl
+  no_wait q (Ok (Jump c a b)) e = absurd (omega arith)
+  no_wait q (Ok (LoopBegin c m)) e = refl
+  no_wait q (Ok LoopEnd) e = refl
+  no_wait q (Err why) e = refl
 
   -- ---- while q jumps are settled
   abbrev pub stage : ℕ → ℕ → List ℕ

@@ -5,11 +5,10 @@ use mathlib.Core.List.{List, []}
 use Prim.Native.Nat.{ℕ, suc, ◌+◌, ◌*◌, ◌<◌}
 use native.Mathlib.Omega.{arith}
 use lib.ListN.{get_or}
-use Rattle.refusals.specs.declared.Verdict.TheVariants.{Good, Refused}
+use Rattle.std.specs.Prelude.{Ok, Err, Option}
+use Rattle.coded.specs.Coded.{Coded}
 use Rattle.items.specs.declared.Condition.{Condition}
-use Rattle.coded.specs.declared.Coded.TheVariants.{Instruction, Label, Jump, LoopBegin, LoopEnd}
-use Rattle.coded.specs.declared.Coded.{Coded}
-use Rattle.coded.specs.declared.Coded.TheVariants as coded
+use Rattle.items.specs.declared.Item.TheVariants.{Instruction, Label, Jump, LoopBegin, LoopEnd}
 use Rattle.places.specs.Items.{Kernel, is_jump, total, place, jump_width}
 use Rattle.places.specs.Left.{Lent}
 use Rattle.places.specs.Looking.{Found, at, nothing, labelled}
@@ -19,7 +18,6 @@ use Rattle.refusals.proofs.Order.{refused-good, StopsAt, AllPass}
 use Rattle.prefixes.proofs.Single.{Single}
 use Rattle.prefixes.proofs.Totals.{total-up}
 use Rattle.machine.specs.declared.State.{State}
-use Rattle.tables.specs.declared.Sought.{Sought}
 use Rattle.machine.specs.Machine.{Mem}
 use Rattle.tables.specs.Tables.{lookup}
 use Rattle.refusals.specs.Scan.{scan_at, all_scan}
@@ -39,13 +37,13 @@ aim_reach it c i a b (at label) = refl
 aim_reach it c i a b nothing = refl
 
 -- only jumps wait
-no-reach : (k : Kernel) (i : ℕ) (x : Coded) → is_jump x ≡ 0 → reaches k i x ≡ Good
-no-reach k i (Instruction v) e = refl
-no-reach k i (Label a b) e = refl
-no-reach k i (Jump c a b) e = absurd (omega arith)
-no-reach k i (LoopBegin c m) e = refl
-no-reach k i LoopEnd e = refl
-no-reach k i (coded.Refused why) e = refl
+no-reach : (k : Kernel) (i : ℕ) (x : Coded) → is_jump x ≡ 0 → reaches k i x ≡ Ok tt
+no-reach k i (Ok (Instruction v)) e = refl
+no-reach k i (Ok (Label a b)) e = refl
+no-reach k i (Ok (Jump c a b)) e = absurd (omega arith)
+no-reach k i (Ok (LoopBegin c m)) e = refl
+no-reach k i (Ok LoopEnd) e = refl
+no-reach k i (Err why) e = refl
 
 -- the memory once every row is taken in, and its parcels once q jumps are settled
 abbrev pub end_of : Kernel → Lent → Mem
@@ -87,22 +85,22 @@ module _ (k : Kernel) (lent : Lent) (f : Fits k.it lent k.n) (single : Single k 
     settle_is =
         ap₂ (λ (q r : ℕ). row_aimed k.names end.lent.labels end.s.labels q ps (it r)) its.place its.row
         ∙ ap (λ (x : Coded). row_aimed k.names end.lent.labels end.s.labels (place it i) ps x) y.jump
-        ∙ ap (λ (z : Sought). aimed y.condition (place it i) z ps) (found-is y.start y.len)
+        ∙ ap (λ (z : Option ℕ). aimed y.condition (place it i) z ps) (found-is y.start y.len)
 
   -- ---- all of them
-  by_number : (q : ℕ) (c : RowOf is_jump IsJump it n q) → reach_at k c.row ≡ Good → waits k end q (jumps_at k lent q) ≡ Good
-  by_number q c e = subst (λ (y : ℕ). waits k end y (jumps_at k lent y) ≡ Good) c.number (wait_is c.row c.before c.is (jumps_at k lent (total is_jump it c.row)) ∙ e)
+  by_number : (q : ℕ) (c : RowOf is_jump IsJump it n q) → reach_at k c.row ≡ Ok tt → waits k end q (jumps_at k lent q) ≡ Ok tt
+  by_number q c e = subst (λ (y : ℕ). waits k end y (jumps_at k lent y) ≡ Ok tt) c.number (wait_is c.row c.before c.is (jumps_at k lent (total is_jump it c.row)) ∙ e)
 
-  pub aims-good : AllPass (reach_at k) k.n → aims_of k (end_of k lent) ≡ Good
+  pub aims-good : AllPass (reach_at k) k.n → aims_of k (end_of k lent) ≡ Ok tt
   aims-good all =
       let e = jumps-is k lent in
       all_scan (waits k end) (settles k end) end.lent.parcels end.s.jumps 0 (λ q u w. let c = jump-row it n q (omega arith) in by_number q c (all c.row c.before))
 
   -- the first jump that is refused: why, and its row as the table has it
-  pub aims-stop : (s : StopsAt (reach_at k) k.n) → (aims_of k (end_of k lent) ≡ Refused s.why) × (aims_row k (end_of k lent) ≡ s.row)
+  pub aims-stop : (s : StopsAt (reach_at k) k.n) → (aims_of k (end_of k lent) ≡ Err s.why) × (aims_row k (end_of k lent) ≡ s.row)
   aims-stop s = ⊎_elim (λ z. absurd (refused-good s.why (sym s.fails ∙ no-reach k s.row (it s.row) z))) jump (jump_or_not (it s.row))
     where
-      jump : IsJump (it s.row) → (aims_of k end ≡ Refused s.why) × (aims_row k end ≡ s.row)
+      jump : IsJump (it s.row) → (aims_of k end ≡ Err s.why) × (aims_row k end ≡ s.row)
       jump y =
           let e = jumps-is k lent in
           let one : is_jump (it s.row) ≡ 1 = ap is_jump y.jump in

@@ -10,13 +10,11 @@ use lib.Dec.{ltb}
 use borrow.Author.Tests.{lt-ltb, le-ltb}
 use Rattle.refusals.specs.declared.Refusal.{Refusal}
 use Rattle.refusals.specs.declared.Refusal.TheVariants.{UnclosedLoop}
-use Rattle.refusals.specs.declared.Verdict.{Verdict}
-use Rattle.refusals.specs.declared.Verdict.TheVariants.{Good, Refused}
-use Rattle.coded.specs.declared.Coded.{Coded}
+use Rattle.std.specs.Prelude.{Ok, Err}
+use Rattle.refusals.specs.Answers.{Verdict, Judged}
+use Rattle.coded.specs.Coded.{Coded}
 use Rattle.places.specs.declared.Rooms.{Rooms}
-use Rattle.refusals.specs.declared.Answer.TheVariants as answer
 use Rattle.places.specs.Items.{Kernel, is_label, is_jump, total, place, nest}
-use Rattle.refusals.specs.declared.Judged.{Judged}
 use Rattle.refusals.specs.Order.{when, passing, said_of_row, first_in, foremost}
 use Rattle.places.specs.Left.{lent_of, outcome, Lent, rooms_of_lent, gather, put, zero_loop, Outcome, built, with_loops}
 use Rattle.refusals.specs.Numbers.{answer_of}
@@ -100,7 +98,7 @@ module _ (k : Kernel) (lent : Lent) (fine : KernelFine k) where
     K-is = ap (λ (y : State). shut y.depth (M t).lent.loops) (state_is it lent t) ∙ zeros_are it lent t (fits t (omega arith))
 
     -- refused: with any parcels that keep the rest
-    wiped-is : (why : Refusal) (row : ℕ) (ps : List ℕ) → drop (place it t) ps ≡ drop (place it t) lent.parcels → wiped (closed (with_p (M t) ps)) why row ≡ came (said_of_row row (Refused why)) t
+    wiped-is : (why : Refusal) (row : ℕ) (ps : List ℕ) → drop (place it t) ps ≡ drop (place it t) lent.parcels → wiped (closed (with_p (M t) ps)) why row ≡ came (said_of_row row (Err why)) t
     wiped-is why row ps e =
         ap (λ (s : State). wiped (mem_of (level 0 s) (with_loops (with_parcels (M t).lent ps) (shut (M t).s.depth (M t).lent.loops))) why row) (state_is it lent t)
         ∙ out_eq refl (put_refused why ps (gather (final k) t) lent.parcels (place it t) (place-emitted k t) e) (front-refused why L-is) (front-refused why J-is) K-is
@@ -129,7 +127,7 @@ module _ (k : Kernel) (lent : Lent) (fine : KernelFine k) where
         earlier = rows-good s.row s.earlier;
       }
 
-  stopped-at : (s : StopsAt pass n) → (scan_chk C N m₀ n 0 ≡ Refused s.why) × (scan_end C N m₀ n 0 ≡ s.row)
+  stopped-at : (s : StopsAt pass n) → (scan_chk C N m₀ n 0 ≡ Err s.why) × (scan_end C N m₀ n 0 ≡ s.row)
   stopped-at s =
       let h = s.before in
       scan_stop C N m₀ n 0 s.row (omega arith) (omega arith) (λ q u v. at_row q ∙ s.earlier q v) (at_row s.row ∙ s.fails)
@@ -137,10 +135,10 @@ module _ (k : Kernel) (lent : Lent) (fine : KernelFine k) where
   refused-is : StopsAt pass n → out_of k r m₀ ≡ built k lent
   refused-is s =
       let t = stopped-at s in
-      out_by (Refused s.why) s.row t.0 t.1
+      out_by (Err s.why) s.row t.0 t.1
       ∙ ap (wiped (closed (M s.row)) s.why) (pick_true (ltb s.row n) s.row (opener it s.row) (lt-ltb s.row n s.before))
       ∙ wiped-is s.row s.earlier s.why s.row (M s.row).lent.parcels (rest-is (P-is s.row s.earlier))
-      ∙ ap (λ (i : ℕ). came (said_of_row i (Refused s.why)) i) (sym (stop-passing said n (stops s)))
+      ∙ ap (λ (i : ℕ). came (said_of_row i (Err s.why)) i) (sym (stop-passing said n (stops s)))
       ∙ ap (λ (v : Verdict). came (foremost (said_of_row (passing said n) v ∷ rest (ltb 0 (nest it n)))) (passing said n)) (sym (stop-first said n (stops s)))
 
   -- ---- all rows are taken in
@@ -151,7 +149,7 @@ module _ (k : Kernel) (lent : Lent) (fine : KernelFine k) where
     one : Single k n
     one = single k r n (rows-good n all)
 
-    passed-all : (scan_chk C N m₀ n 0 ≡ Good) × (scan_end C N m₀ n 0 ≡ n)
+    passed-all : (scan_chk C N m₀ n 0 ≡ Ok tt) × (scan_end C N m₀ n 0 ≡ n)
     passed-all =
         let c = all_scan C N m₀ n 0 (λ q u v. at_row q ∙ all q (omega arith)) in
         (c, scan_end_lem C N m₀ n 0 c ∙ (let w : 0 + n ≡ n = omega arith in w))
@@ -163,11 +161,11 @@ module _ (k : Kernel) (lent : Lent) (fine : KernelFine k) where
     settled_is = record { held = aimed_are k lent f one fine; many = place-emitted k n }
 
     by-aims : (row : ℕ) (v : Verdict) → aims_of k (M n) ≡ v → aims_out row v (with_p (closed (M n)) (aims_p k (M n))) ≡ came (said_of_row row v) n
-    by-aims row Good g =
+    by-aims row (Ok _) g =
         let b = jumps-is k lent in
         let e : aims_end k (M n) ≡ total is_jump it n = scan_end_lem (waits k (M n)) (settles k (M n)) (M n).lent.parcels (M n).s.jumps 0 g ∙ (let w : 0 + (M n).s.jumps ≡ total is_jump it n = omega arith in w) in
-        out_eq (ap (λ (s : State). answer.Accepted s.at) (state_is it lent n)) (ap (jumps_at k lent) e ∙ put-good settled_is) (put-good (L-is n all)) (put-good (J-is n all)) (K-is n all)
-    by-aims row (Refused why) g =
+        out_eq (ap (λ (s : State). Ok s.at) (state_is it lent n)) (ap (jumps_at k lent) e ∙ put-good settled_is) (put-good (L-is n all)) (put-good (J-is n all)) (K-is n all)
+    by-aims row (Err why) g =
         let a = scan_low (waits k (M n)) (settles k (M n)) (M n).lent.parcels (M n).s.jumps 0 in
         let b = jumps-is k lent in
         wiped-is n all why row (aims_p k (M n)) (rest-is (settling_is (aims_end k (M n)) (omega arith)))
@@ -188,7 +186,7 @@ module _ (k : Kernel) (lent : Lent) (fine : KernelFine k) where
 
     taken_is : out_of k r m₀ ≡ built k lent
     taken_is =
-        out_by Good n passed-all.0 passed-all.1
+        out_by (Ok tt) n passed-all.0 passed-all.1
         ∙ ap₂ (λ (row : ℕ) (s : State). finish k row (when (ltb 0 s.depth) UnclosedLoop) (closed (M n))) (pick_false (ltb n n) n (opener it n) (le-ltb n n (omega arith))) (state_is it lent n)
         ∙ by-nest (ltb 0 (nest it n)) refl
         ∙ ap (came (foremost (rest (ltb 0 (nest it n))))) (sym (all-passing said n (rows-good n all)))

@@ -3,9 +3,9 @@ use mathlib.Core.Path.{◌≡◌, subst}
 use Prim.Native.Nat.{ℕ, zero, suc, ◌*◌, ◌≤◌, ◌<◌}
 use native.Mathlib.Omega.{arith}
 use lib.ListN.{length}
-use Rattle.refusals.specs.declared.Verdict.TheVariants.{Good}
-use Rattle.coded.specs.declared.Coded.TheVariants.{LoopEnd}
-use Rattle.coded.specs.declared.Coded.{Coded}
+use Rattle.std.specs.Prelude.{Ok}
+use Rattle.coded.specs.Coded.{Coded}
+use Rattle.items.specs.declared.Item.TheVariants.{LoopEnd}
 use Rattle.places.specs.declared.Rooms.{Rooms}
 use Rattle.places.specs.Items.{Kernel, is_label, is_jump, total, place, nest}
 use Rattle.places.specs.Left.{Lent}
@@ -23,7 +23,7 @@ pub record Fits (it : ℕ → Coded) (lent : Lent) (i : ℕ) : Type 0 where
   pub labels : 3 * total is_label it i ≤ length lent.labels
   pub jumps : 2 * total is_jump it i ≤ length lent.jumps
   pub loops : deepest it i ≤ length lent.loops
-  pub ends : (q : ℕ) → q < i → it q ≡ LoopEnd → 0 < nest it q
+  pub ends : (q : ℕ) → q < i → it q ≡ Ok LoopEnd → 0 < nest it q
 
 deepest-up : (it : ℕ → Coded) (i : ℕ) → deepest it i ≤ deepest it (suc i)
 deepest-up it i = omega arith
@@ -55,6 +55,6 @@ module _ (k : Kernel) (lent : Lent) (r : Rooms) (rooms : RoomingIn r lent) (fine
         loops = omega arith;
         ends = λ q u e.
             let m = mem k.it lent q in
-            let c = end-good m.s (top_of m.s m.lent.loops) (subst (λ (x : Coded). check k.names r x (mem k.it lent q) ≡ Good) e (all q u)) in
+            let c = end-good m.s (top_of m.s m.lent.loops) (subst (λ (x : Coded). check k.names r x (mem k.it lent q) ≡ Ok tt) e (all q u)) in
             subst (λ (s : State). 0 < s.depth) (state_is k.it lent q) c.inside;
       }

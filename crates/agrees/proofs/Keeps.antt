@@ -9,22 +9,19 @@ use lib.ListN.{length, get_or, set, length-set}
 use lib.Dec.{eqb}
 use lib.Seq.{sets, length-sets, get_or-set_same, get_or-set_other}
 use borrow.Author.Count.{below_more}
-use Rattle.refusals.specs.declared.Verdict.TheVariants.{Good}
-use Rattle.coded.specs.declared.Coded.TheVariants.{Instruction, Label, Jump, LoopBegin, LoopEnd}
-use Rattle.encode.specs.Encoding.{form_parcels}
+use Rattle.std.specs.Prelude.{Ok, Err}
+use Rattle.coded.specs.Coded.{Coded}
+use Rattle.items.specs.declared.Item.TheVariants.{Instruction, Label, Jump, LoopBegin, LoopEnd}
+use Rattle.encode.specs.Encoding.{form_parcels, settled}
 use Rattle.encode.proofs.Sizes.{form-some}
-use Rattle.coded.specs.declared.Coded.{Coded}
-use Rattle.coded.specs.declared.Coded.TheVariants as coded
 use Rattle.places.specs.declared.Rooms.{Rooms}
 use Rattle.places.specs.declared.OpenLoop.{OpenLoop}
 use Rattle.places.specs.Items.{size_of, address_of}
-use Rattle.places.specs.Left.{Lent, zero_loop}
-use Rattle.encode.specs.Encoding.{settled}
+use Rattle.places.specs.Left.{Lent, zero_loop, zeros}
 use Rattle.refusals.proofs.Order.{refused-good}
 use Rattle.machine.specs.declared.State.{State}
 use Rattle.checks.specs.Rooming.{RoomingIn}
 use Rattle.machine.specs.Machine.{Mem, mem_of, check, next, top_of, top_form, begin_record, end_next, Starts, GoodFor}
-use Rattle.places.specs.Left.{zeros}
 use Rattle.tables.specs.Tables.{Entries}
 use Rattle.coded.specs.Fine.{CodedFine}
 use Rattle.machine.specs.Fold.{zero_state}
@@ -40,14 +37,14 @@ pub record SameLens (m m' : Mem) : Type 0 where
   pub K : length m'.lent.loops ≡ length m.lent.loops
 
 pub lens : (row : ℕ) (x : Coded) (m : Mem) → SameLens m (next row x m)
-lens row (Instruction v) m = record { P = length-sets m.lent.parcels m.s.at (form_parcels v.form); L = refl; J = refl; K = refl }
-lens row (Label a b) m = record { P = refl; L = length-sets m.lent.labels (3 * m.s.labels) (a ∷ b ∷ address_of m.s.at ∷ []); J = refl; K = refl }
-lens row (Jump c a b) m = record { P = length-sets m.lent.parcels m.s.at zeros; L = refl; J = length-sets m.lent.jumps (2 * m.s.jumps) (m.s.at ∷ row ∷ []); K = refl }
-lens row (LoopBegin c k) m = record { P = length-sets m.lent.parcels m.s.at zeros; L = refl; J = refl; K = length-set m.lent.loops m.s.depth (begin_record m.s c k) }
-lens row LoopEnd m =
+lens row (Ok (Instruction v)) m = record { P = length-sets m.lent.parcels m.s.at (form_parcels v.form); L = refl; J = refl; K = refl }
+lens row (Ok (Label a b)) m = record { P = refl; L = length-sets m.lent.labels (3 * m.s.labels) (a ∷ b ∷ address_of m.s.at ∷ []); J = refl; K = refl }
+lens row (Ok (Jump c a b)) m = record { P = length-sets m.lent.parcels m.s.at zeros; L = refl; J = length-sets m.lent.jumps (2 * m.s.jumps) (m.s.at ∷ row ∷ []); K = refl }
+lens row (Ok (LoopBegin c k)) m = record { P = length-sets m.lent.parcels m.s.at zeros; L = refl; J = refl; K = length-set m.lent.loops m.s.depth (begin_record m.s c k) }
+lens row (Ok LoopEnd) m =
     let top = top_of m.s m.lent.loops in
     record { P = length-sets m.lent.parcels top.place (settled (top_form m.s top)); L = refl; J = refl; K = length-set m.lent.loops (m.s.depth - 1) zero_loop }
-lens row (coded.Refused why) m = record { P = refl; L = refl; J = refl; K = refl }
+lens row (Err why) m = record { P = refl; L = refl; J = refl; K = refl }
 
 -- ---- the state
 pick_most : (t : Bool) (a b c : ℕ) → a ≤ c → b ≤ c → cond t a b ≤ c
@@ -84,52 +81,52 @@ starts-less s s' ks d some a l h k u =
     start-kept zero_loop ks (s.depth - 1) k s'.at s'.last (omega arith) (let z = h k (omega arith) in omega arith)
 
 -- ---- one row
-pub keep : (names : List ℕ) (r : Rooms) (row : ℕ) (x : Coded) (m : Mem) → GoodFor names r m → CodedFine (length names) x → check names r x m ≡ Good → GoodFor names r (next row x m)
-keep names r row (Instruction v) m g h e =
+pub keep : (names : List ℕ) (r : Rooms) (row : ℕ) (x : Coded) (m : Mem) → GoodFor names r m → CodedFine (length names) x → check names r x m ≡ Ok tt → GoodFor names r (next row x m)
+keep names r row (Ok (Instruction v)) m g h e =
     let c = instruction-good r m.s.at m.s.depth v e in
     let some = form-some v.form c.encodes in
     let t = eqb (size_of v.form) 3 in
     let short = pick_most t m.s.short (m.s.count + 1) (m.s.count + 1) (omega arith) (omega arith) in
     let shortat = pick_most t m.s.shortat m.s.at m.s.at (omega arith) (omega arith) in
     record {
-      rooming = omega (arith, lens row (Instruction v) m);
+      rooming = omega (arith, lens row (Ok (Instruction v)) m);
       within = omega arith;
       entries = g.entries;
-      starts = on-starts m.s (next row (Instruction v) m).s m.lent.loops refl (omega arith) (omega arith) g.starts;
+      starts = on-starts m.s (next row (Ok (Instruction v)) m).s m.lent.loops refl (omega arith) (omega arith) g.starts;
     }
-keep names r row (Label a b) m g h e =
+keep names r row (Ok (Label a b)) m g h e =
     let c = label-good r m.s.depth names m.lent.labels m.s.labels a b e in
     record {
-      rooming = omega (arith, lens row (Label a b) m);
+      rooming = omega (arith, lens row (Ok (Label a b)) m);
       within = omega arith;
       entries = entries-more names m.lent.labels m.s.labels a b m.s.at (omega arith) h g.entries;
       starts = g.starts;
     }
-keep names r row (Jump c a b) m g h e =
+keep names r row (Ok (Jump c a b)) m g h e =
     let q = jump-good r m.s.at m.s.jumps m.s.depth e in
     record {
-      rooming = omega (arith, lens row (Jump c a b) m);
+      rooming = omega (arith, lens row (Ok (Jump c a b)) m);
       within = omega arith;
       entries = g.entries;
-      starts = on-starts m.s (next row (Jump c a b) m).s m.lent.loops refl (omega arith) (omega arith) g.starts;
+      starts = on-starts m.s (next row (Ok (Jump c a b)) m).s m.lent.loops refl (omega arith) (omega arith) g.starts;
     }
-keep names r row (LoopBegin c k) m g h e =
+keep names r row (Ok (LoopBegin c k)) m g h e =
     let q = begin_good r m.s.at m.s.depth e in
     record {
-      rooming = omega (arith, lens row (LoopBegin c k) m);
+      rooming = omega (arith, lens row (Ok (LoopBegin c k)) m);
       within = omega arith;
       entries = g.entries;
       starts = starts_more m.lent.loops (begin_record m.s c k) m.s.depth (m.s.at + 3) m.s.at (omega arith) (omega arith) (omega arith) (λ d u. let z = g.starts d u in omega arith);
     }
-keep names r row LoopEnd m g h e =
+keep names r row (Ok LoopEnd) m g h e =
     let q = end-good m.s (top_of m.s m.lent.loops) e in
     record {
-      rooming = omega (arith, lens row LoopEnd m);
+      rooming = omega (arith, lens row (Ok LoopEnd) m);
       within = omega arith;
       entries = g.entries;
       starts = starts-less m.s (end_next m.s) m.lent.loops refl q.inside refl refl g.starts;
     }
-keep names r row (coded.Refused why) m g h e = absurd (refused-good why e)
+keep names r row (Err why) m g h e = absurd (refused-good why e)
 
 -- ---- the start
 pub good_zero : (names : List ℕ) (r : Rooms) (lent : Lent) → RoomingIn r lent → GoodFor names r (mem_of zero_state lent)

@@ -10,11 +10,11 @@ use lib.ListN.{length, get_or, set, drop, replicate, length-replicate, get_or-re
 use lib.Seq.{set-set, set_comm, set-get_or, set_at, drop-cons, get_or-set_same, get_or-set_other}
 use lib.Dec.{ltb, eqb}
 use borrow.Author.Tests.{eq-eqb, ne_eqb, ltb-true, ltb-false}
-use Rattle.coded.specs.declared.Coded.TheVariants.{Instruction, Label, Jump, LoopBegin, LoopEnd}
+use Rattle.items.specs.declared.Item.TheVariants.{Instruction, Label, Jump, LoopBegin, LoopEnd}
+use Rattle.std.specs.Prelude.{Ok, Err}
+use Rattle.coded.specs.Coded.{Coded}
 use Rattle.items.specs.declared.LoopCount.{LoopCount}
 use Rattle.items.specs.declared.LoopMode.{LoopMode}
-use Rattle.coded.specs.declared.Coded.{Coded}
-use Rattle.coded.specs.declared.Coded.TheVariants as coded
 use Rattle.places.specs.declared.OpenLoop.{OpenLoop}
 use Rattle.places.specs.Items.{about, place, entries, nest}
 use Rattle.places.specs.Left.{Lent, zero_loop}
@@ -69,12 +69,12 @@ zero_begin d e k h room = go (ltb e (suc d)) refl
 
 -- ---- the record of a loop start
 abbrev pub numbers : Coded → ℕ × ℕ
-numbers (Instruction v) = (0, 0)
-numbers (Label a b) = (0, 0)
-numbers (Jump c a b) = (0, 0)
-numbers (LoopBegin c m) = (count_number c, mode_number m)
-numbers LoopEnd = (0, 0)
-numbers (coded.Refused why) = (0, 0)
+numbers (Ok (Instruction v)) = (0, 0)
+numbers (Ok (Label a b)) = (0, 0)
+numbers (Ok (Jump c a b)) = (0, 0)
+numbers (Ok (LoopBegin c m)) = (count_number c, mode_number m)
+numbers (Ok LoopEnd) = (0, 0)
+numbers (Err why) = (0, 0)
 
 module _ (it : ℕ → Coded) where
   abbrev record_by : Coded → ℕ → OpenLoop
@@ -110,7 +110,7 @@ module _ (it : ℕ → Coded) where
         }
 
     -- a loop start pushes its record
-    begins : (i : ℕ) (c : LoopCount) (m : LoopMode) → it i ≡ LoopBegin c m → Fits it lent (suc i) → Here i → Here (suc i)
+    begins : (i : ℕ) (c : LoopCount) (m : LoopMode) → it i ≡ Ok (LoopBegin c m) → Fits it lent (suc i) → Here i → Here (suc i)
     begins i c m e f h =
         let o : (about (it i)).opens ≡ 1 = ap (λ (x : Coded). (about x).opens) e in
         let z : (about (it i)).closes ≡ 0 = ap (λ (x : Coded). (about x).closes) e in
@@ -139,7 +139,7 @@ module _ (it : ℕ → Coded) where
         }
 
     -- a loop end pops the innermost, and zeroes it
-    ends : (i : ℕ) → it i ≡ LoopEnd → Fits it lent (suc i) → Here i → Here (suc i)
+    ends : (i : ℕ) → it i ≡ Ok LoopEnd → Fits it lent (suc i) → Here i → Here (suc i)
     ends i e f h =
         let o : (about (it i)).opens ≡ 0 = ap (λ (x : Coded). (about x).opens) e in
         let z : (about (it i)).closes ≡ 1 = ap (λ (x : Coded). (about x).closes) e in
@@ -156,12 +156,12 @@ module _ (it : ℕ → Coded) where
         }
 
     by_row : (i : ℕ) (x : Coded) → it i ≡ x → Fits it lent (suc i) → Here i → Here (suc i)
-    by_row i (Instruction v) e f h = plain i e refl refl refl h
-    by_row i (Label a b) e f h = plain i e refl refl refl h
-    by_row i (Jump c a b) e f h = plain i e refl refl refl h
-    by_row i (LoopBegin c m) e f h = begins i c m e f h
-    by_row i LoopEnd e f h = ends i e f h
-    by_row i (coded.Refused why) e f h = plain i e refl refl refl h
+    by_row i (Ok (Instruction v)) e f h = plain i e refl refl refl h
+    by_row i (Ok (Label a b)) e f h = plain i e refl refl refl h
+    by_row i (Ok (Jump c a b)) e f h = plain i e refl refl refl h
+    by_row i (Ok (LoopBegin c m)) e f h = begins i c m e f h
+    by_row i (Ok LoopEnd) e f h = ends i e f h
+    by_row i (Err why) e f h = plain i e refl refl refl h
 
     here : (i : ℕ) → Fits it lent i → Here i
     here zero f = record { records = λ q u. absurd (omega arith); zeros = refl }

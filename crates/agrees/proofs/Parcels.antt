@@ -9,23 +9,23 @@ use lib.ListN.{length, drop, length-drop}
 use lib.Seq.{sets, drop-drop}
 use lib.Dec.{eqb}
 use borrow.Author.Tests.{eq-eqb, ne_eqb}
-use Rattle.coded.specs.declared.Coded.TheVariants.{Instruction, Label, Jump, LoopBegin, LoopEnd}
+use Rattle.items.specs.declared.Item.TheVariants.{Instruction, Label, Jump, LoopBegin, LoopEnd}
+use Rattle.std.specs.Prelude.{Ok, Err, Result}
+use Rattle.encode.specs.declared.Form.{Form}
+use Rattle.refusals.specs.declared.Refusal.{Refusal}
+use Rattle.coded.specs.Coded.{Coded}
 use Rattle.items.specs.declared.LoopCount.{LoopCount}
 use Rattle.items.specs.declared.LoopMode.{LoopMode}
-use Rattle.encode.specs.declared.Form.{Form}
 use Rattle.encode.specs.Encoding.{form_parcels, loop_form, settled}
-use Rattle.coded.specs.declared.Coded.{Coded}
-use Rattle.coded.specs.declared.Coded.TheVariants as coded
 use Rattle.places.specs.declared.OpenLoop.{OpenLoop}
 use Rattle.places.specs.Items.{Kernel, about, size, place, nest}
-use Rattle.places.specs.Left.{Lent, loop_parcels, gather}
+use Rattle.places.specs.Left.{Lent, loop_parcels, gather, zeros}
 use Rattle.places.specs.Looking.{Found, at, nothing, latest, opener, closer}
 use Rattle.places.proofs.Emitted.{settled-three}
 use Rattle.places.specs.Verdict.{loop_offset, loop_row}
 use Rattle.prefixes.proofs.Tests.{and_second}
 use Rattle.machine.specs.declared.State.{State}
 use Rattle.machine.specs.Machine.{Mem, next, top_of, top_form}
-use Rattle.places.specs.Left.{zeros}
 use Rattle.tables.specs.Tables.{KernelFine}
 use Rattle.tables.proofs.Stores.{sets_at, gather_eq, gather-length, gather_patch}
 use Rattle.agrees.proofs.Prefix.{mem, state_is}
@@ -35,24 +35,24 @@ use Rattle.agrees.proofs.Tops.{Opener, opener-at, top-is, top-form}
 module _ (it : ℕ → Coded) where
   -- the parcels of row q, a loop that ends as said, while jumps wait
   abbrev pub words : Found → ℕ → Coded → List ℕ
-  words e q (Instruction v) = form_parcels v.form
-  words e q (Label a b) = []
-  words e q (Jump c a b) = zeros
-  words e q (LoopBegin c m) = loop_parcels it c m q e
-  words e q LoopEnd = []
-  words e q (coded.Refused why) = []
+  words e q (Ok (Instruction v)) = form_parcels v.form
+  words e q (Ok (Label a b)) = []
+  words e q (Ok (Jump c a b)) = zeros
+  words e q (Ok (LoopBegin c m)) = loop_parcels it c m q e
+  words e q (Ok LoopEnd) = []
+  words e q (Err why) = []
 
   loop-length : (c : LoopCount) (m : LoopMode) (q : ℕ) (e : Found) → length (loop_parcels it c m q e) ≡ 3
   loop-length c m q (at e) = settled-three (loop_form c m (loop_offset it e q))
   loop-length c m q nothing = refl
 
   pub words-length : (e : Found) (q : ℕ) (x : Coded) → length (words e q x) ≡ size x
-  words-length e q (Instruction v) = refl
-  words-length e q (Label a b) = refl
-  words-length e q (Jump c a b) = refl
-  words-length e q (LoopBegin c m) = loop-length c m q e
-  words-length e q LoopEnd = refl
-  words-length e q (coded.Refused why) = refl
+  words-length e q (Ok (Instruction v)) = refl
+  words-length e q (Ok (Label a b)) = refl
+  words-length e q (Ok (Jump c a b)) = refl
+  words-length e q (Ok (LoopBegin c m)) = loop-length c m q e
+  words-length e q (Ok LoopEnd) = refl
+  words-length e q (Err why) = refl
 
   -- while i rows are in
   abbrev pub parts : ℕ → ℕ → List ℕ
@@ -104,7 +104,7 @@ module _ (k : Kernel) (lent : Lent) (fine : KernelFine k) where
       ∙ sets_at (gather (parts it i) i) (parts it i i) (drop (place it i) lent.parcels) (place it i) (parts-length it i i) (omega arith)
       ∙ ap₂ ◌++◌ (gather_eq (parts it i) (parts it (suc i)) (suc i) (λ q u. rw c refl)) (drop-drop (length (parts it i i)) (place it i) lent.parcels ∙ ap (λ (y : ℕ). drop (place it i + y) lent.parcels) ln)
 
-  closes : (i : ℕ) → it i ≡ LoopEnd → Fits it lent (suc i) → Here i → Here (suc i)
+  closes : (i : ℕ) → it i ≡ Ok LoopEnd → Fits it lent (suc i) → Here i → Here (suc i)
   closes i e f h =
       let some : 0 < nest it i = f.ends i (omega arith) e in
       let b = opener it i in
@@ -117,18 +117,18 @@ module _ (k : Kernel) (lent : Lent) (fine : KernelFine k) where
       let none : size (it i) ≡ 0 = ap size e in
       ap (λ (x : Coded). (next i x (M i)).lent.parcels) e
       ∙ ap (λ (s : State). sets (M i).lent.parcels (top_of s (M i).lent.loops).place (settled (top_form s (top_of s (M i).lent.loops)))) (state_is it lent i)
-      ∙ ap₂ (λ (x : ℕ) (y : Form). sets (M i).lent.parcels x (settled y)) (ap (λ (y : OpenLoop). y.place) (top-is it lent i (fits-less f) some)) (top-form it lent i (fits-less f) some k.names (fine b))
+      ∙ ap₂ (λ (x : ℕ) (y : Result Form Refusal). sets (M i).lent.parcels x (settled y)) (ap (λ (y : OpenLoop). y.place) (top-is it lent i (fits-less f) some)) (top-form it lent i (fits-less f) some k.names (fine b))
       ∙ ap₂ (λ (x y : List ℕ). sets x (place it b) y) h new
       ∙ gather_patch (parts it i) (parts it (suc i)) (drop (place it i) lent.parcels) i b (place it b) o.before (parts-length it i b) ln old
       ∙ ap₂ (λ (x : List ℕ) (y : ℕ). x ++ drop y lent.parcels) (sym (append-nil (gather (parts it (suc i)) i)) ∙ ap (λ (x : Coded). gather (parts it (suc i)) i ++ words it (closer it (suc i) i) i x) (sym e)) (let w : place it i ≡ place it (suc i) = omega arith in w)
 
   by_row : (i : ℕ) (x : Coded) → it i ≡ x → Fits it lent (suc i) → Here i → Here (suc i)
-  by_row i (Instruction v) e f h = plain i e refl (ap (λ (s : State). sets (M i).lent.parcels s.at (form_parcels v.form)) (state_is it lent i)) f h
-  by_row i (Label a b) e f h = plain i e refl refl f h
-  by_row i (Jump c a b) e f h = plain i e refl (ap (λ (s : State). sets (M i).lent.parcels s.at zeros) (state_is it lent i)) f h
-  by_row i (LoopBegin c m) e f h = plain i e refl (ap (λ (s : State). sets (M i).lent.parcels s.at zeros) (state_is it lent i)) f h
-  by_row i LoopEnd e f h = closes i e f h
-  by_row i (coded.Refused why) e f h = plain i e refl refl f h
+  by_row i (Ok (Instruction v)) e f h = plain i e refl (ap (λ (s : State). sets (M i).lent.parcels s.at (form_parcels v.form)) (state_is it lent i)) f h
+  by_row i (Ok (Label a b)) e f h = plain i e refl refl f h
+  by_row i (Ok (Jump c a b)) e f h = plain i e refl (ap (λ (s : State). sets (M i).lent.parcels s.at zeros) (state_is it lent i)) f h
+  by_row i (Ok (LoopBegin c m)) e f h = plain i e refl (ap (λ (s : State). sets (M i).lent.parcels s.at zeros) (state_is it lent i)) f h
+  by_row i (Ok LoopEnd) e f h = closes i e f h
+  by_row i (Err why) e f h = plain i e refl refl f h
 
   pub parcels_are : (i : ℕ) → Fits k.it lent i → (mem k.it lent i).lent.parcels ≡ gather (parts k.it i) i ++ drop (place k.it i) lent.parcels
   parcels_are zero f = refl

@@ -4,11 +4,11 @@ use mathlib.Core.Bool.{Bool, true, false, cond}
 use Prim.Native.Nat.{ℕ, zero, suc, ◌+◌, ◌-◌}
 use native.Mathlib.Omega.{arith}
 use lib.Dec.{eqb}
-use Rattle.refusals.specs.declared.Verdict.{Verdict}
+use Rattle.std.specs.Prelude.{Ok, Err}
+use Rattle.refusals.specs.Answers.{Verdict}
+use Rattle.coded.specs.Coded.{Coded}
 use Rattle.refusals.proofs.Order.{AllPass}
-use Rattle.coded.specs.declared.Coded.TheVariants.{Instruction, Label, Jump, LoopBegin, LoopEnd}
-use Rattle.coded.specs.declared.Coded.{Coded}
-use Rattle.coded.specs.declared.Coded.TheVariants as coded
+use Rattle.items.specs.declared.Item.TheVariants.{Instruction, Label, Jump, LoopBegin, LoopEnd}
 use Rattle.places.specs.declared.Rooms.{Rooms}
 use Rattle.places.specs.declared.Traits.{Traits}
 use Rattle.places.specs.Items.{Kernel, size_of, address, is_end, is_short, about, is_label, is_jump, total, place, address_of, entries, nest}
@@ -43,12 +43,12 @@ by_size true a b = refl
 by_size false a b = refl
 
 next-is : (row : ℕ) (x : Coded) (m : Mem) → (next row x m).s ≡ turned (about x) m.s
-next-is row (Instruction v) m = let t = eqb (size_of v.form) 3 in st_eq refl (none _) (none _) (level _) refl (by_size t _ _) (by_size t _ _)
-next-is row (Label a b) m = st_eq (none _) refl (none _) (level _) (none _) refl refl
-next-is row (Jump c a b) m = st_eq refl (none _) refl (level _) refl refl refl
-next-is row (LoopBegin c k) m = st_eq refl (none _) (none _) (omega arith) refl refl refl
-next-is row LoopEnd m = st_eq (none _) (none _) (none _) (omega arith) (none _) refl refl
-next-is row (coded.Refused why) m = st_eq (none _) (none _) (none _) (level _) (none _) refl refl
+next-is row (Ok (Instruction v)) m = let t = eqb (size_of v.form) 3 in st_eq refl (none _) (none _) (level _) refl (by_size t _ _) (by_size t _ _)
+next-is row (Ok (Label a b)) m = st_eq (none _) refl (none _) (level _) (none _) refl refl
+next-is row (Ok (Jump c a b)) m = st_eq refl (none _) refl (level _) refl refl refl
+next-is row (Ok (LoopBegin c k)) m = st_eq refl (none _) (none _) (omega arith) refl refl refl
+next-is row (Ok LoopEnd) m = st_eq (none _) (none _) (none _) (omega arith) (none _) refl refl
+next-is row (Err why) m = st_eq (none _) (none _) (none _) (level _) (none _) refl refl
 
 -- ---- i rows
 -- the latest instruction before i that does not take three parcels: the number of entries up to it, and its address

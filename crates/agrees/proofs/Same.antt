@@ -7,9 +7,9 @@ use native.Mathlib.Omega.{arith}
 use lib.Dec.{ltb, eqb}
 use borrow.Author.Tests.{eqb-false}
 use Rattle.refusals.specs.declared.Refusal.TheVariants.{DuplicateLabel, LabelInLoop, NoRoomForLabels}
-use Rattle.coded.specs.declared.Coded.TheVariants.{Instruction, Label, Jump, LoopBegin, LoopEnd}
-use Rattle.coded.specs.declared.Coded.{Coded}
-use Rattle.coded.specs.declared.Coded.TheVariants as coded
+use Rattle.items.specs.declared.Item.TheVariants.{Instruction, Label, Jump, LoopBegin, LoopEnd}
+use Rattle.std.specs.Prelude.{Ok, Err}
+use Rattle.coded.specs.Coded.{Coded}
 use Rattle.places.specs.declared.Rooms.{Rooms}
 use Rattle.places.specs.declared.OpenLoop.{OpenLoop}
 use Rattle.places.specs.Items.{Kernel, is_label, total, nest}
@@ -42,7 +42,7 @@ module _ (k : Kernel) (fine : KernelFine k) (lent : Lent) (r : Rooms) (i : ℕ) 
   s-is = state_is it lent i
 
   -- with no loop open the rest isn't looked at
-  end_is : (t : Bool) → eqb (nest it i) 0 ≡ t → end_chk S (top_of S M.lent.loops) ≡ first (faults k r i LoopEnd)
+  end_is : (t : Bool) → eqb (nest it i) 0 ≡ t → end_chk S (top_of S M.lent.loops) ≡ first (faults k r i (Ok LoopEnd))
   end_is true e = rw e refl
   end_is false e =
       let h = eqb-false (nest it i) 0 e in
@@ -50,15 +50,15 @@ module _ (k : Kernel) (fine : KernelFine k) (lent : Lent) (r : Rooms) (i : ℕ) 
       rw (ap (λ (y : OpenLoop). y.first) (top-is it lent i f some), top-form it lent i f some k.names (fine (opener it i)), shared-is it i some, short-is it i some) refl
 
   row_by : (x : Coded) → check k.names r x M ≡ first (faults k r i x)
-  row_by (Instruction v) = ap (λ (s : State). instruction_chk r s.at s.depth v) s-is
-  row_by (Label a b) =
+  row_by (Ok (Instruction v)) = ap (λ (s : State). instruction_chk r s.at s.depth v) s-is
+  row_by (Ok (Label a b)) =
       ap (λ (s : State). label_chk r s.depth k.names M.lent.labels s.labels a b) s-is
       ∙ ap (λ (t : Bool). first (when (ltb 0 (nest it i)) (LabelInLoop a b) ∷ when t (DuplicateLabel a b) ∷ when (ltb r.labels (total is_label it i + 1)) (NoRoomForLabels r.labels) ∷ []))
       (lookup-there k i M.lent.labels (entries-held k lent i f) a b)
-  row_by (Jump c a b) = ap (λ (s : State). jump_chk r s.at s.jumps s.depth) s-is
-  row_by (LoopBegin c m) = ap (λ (s : State). begin_chk r s.at s.depth) s-is
-  row_by LoopEnd = ap (λ (s : State). end_chk s (top_of s M.lent.loops)) s-is ∙ end_is (eqb (nest it i) 0) refl
-  row_by (coded.Refused why) = refl
+  row_by (Ok (Jump c a b)) = ap (λ (s : State). jump_chk r s.at s.jumps s.depth) s-is
+  row_by (Ok (LoopBegin c m)) = ap (λ (s : State). begin_chk r s.at s.depth) s-is
+  row_by (Ok LoopEnd) = ap (λ (s : State). end_chk s (top_of s M.lent.loops)) s-is ∙ end_is (eqb (nest it i) 0) refl
+  row_by (Err why) = refl
 
   pub row_is : check_at k lent r i ≡ first (faults k r i (k.it i))
   row_is = row_by (it i)

@@ -3,8 +3,9 @@ use mathlib.Core.Path.{◌≡◌, refl, ap}
 use mathlib.Core.List.{[], ◌∷◌}
 use Prim.Native.Nat.{ℕ, suc, ◌*◌}
 use lib.Seq.{sets}
-use Rattle.coded.specs.declared.Coded.TheVariants.{Instruction, Label, Jump, LoopBegin, LoopEnd, Refused}
-use Rattle.coded.specs.declared.Coded.{Coded}
+use Rattle.items.specs.declared.Item.TheVariants.{Instruction, Label, Jump, LoopBegin, LoopEnd}
+use Rattle.std.specs.Prelude.{Ok, Err}
+use Rattle.coded.specs.Coded.{Coded}
 use Rattle.places.specs.Items.{Kernel, is_label, is_jump, total, address_of}
 use Rattle.places.specs.Left.{Lent, left}
 use Rattle.tables.specs.Held.{HoldsLabels}
@@ -19,20 +20,20 @@ module _ (k : Kernel) (lent : Lent) where
   M i = mem k.it lent i
 
   next-L : (i : ℕ) (x : Coded) → (next i x (M i)).lent.labels ≡ sets (M i).lent.labels (3 * total is_label k.it i) (left k i x).labels
-  next-L i (Instruction v) = refl
-  next-L i (Label a b) = ap (λ (s : State). sets (M i).lent.labels (3 * s.labels) (a ∷ b ∷ address_of s.at ∷ [])) (state_is k.it lent i)
-  next-L i (Jump c a b) = refl
-  next-L i (LoopBegin c m) = refl
-  next-L i LoopEnd = refl
-  next-L i (Refused why) = refl
+  next-L i (Ok (Instruction v)) = refl
+  next-L i (Ok (Label a b)) = ap (λ (s : State). sets (M i).lent.labels (3 * s.labels) (a ∷ b ∷ address_of s.at ∷ [])) (state_is k.it lent i)
+  next-L i (Ok (Jump c a b)) = refl
+  next-L i (Ok (LoopBegin c m)) = refl
+  next-L i (Ok LoopEnd) = refl
+  next-L i (Err why) = refl
 
   next-J : (i : ℕ) (x : Coded) → (next i x (M i)).lent.jumps ≡ sets (M i).lent.jumps (2 * total is_jump k.it i) (left k i x).jumps
-  next-J i (Instruction v) = refl
-  next-J i (Label a b) = refl
-  next-J i (Jump c a b) = ap (λ (s : State). sets (M i).lent.jumps (2 * s.jumps) (s.at ∷ i ∷ [])) (state_is k.it lent i)
-  next-J i (LoopBegin c m) = refl
-  next-J i LoopEnd = refl
-  next-J i (Refused why) = refl
+  next-J i (Ok (Instruction v)) = refl
+  next-J i (Ok (Label a b)) = refl
+  next-J i (Ok (Jump c a b)) = ap (λ (s : State). sets (M i).lent.jumps (2 * s.jumps) (s.at ∷ i ∷ [])) (state_is k.it lent i)
+  next-J i (Ok (LoopBegin c m)) = refl
+  next-J i (Ok LoopEnd) = refl
+  next-J i (Err why) = refl
 
   pub labels-step : (i : ℕ) → (mem k.it lent (suc i)).lent.labels ≡ sets (mem k.it lent i).lent.labels (3 * total is_label k.it i) (left k i (k.it i)).labels
   labels-step i = next-L i (k.it i)

@@ -7,7 +7,7 @@ use native.Mathlib.Omega.{arith}
 use lib.Dec.{ltb, leb, eqb}
 use borrow.Author.Tests.{ltb-true, lt-ltb, le-ltb, leb-true, le-leb, eqb-true, eqb-false, ne_eqb}
 use Rattle.refusals.specs.declared.Refusal.TheVariants.{SharedLoopEnd, LoopTailNotFullWidth}
-use Rattle.coded.specs.declared.Coded.{Coded}
+use Rattle.coded.specs.Coded.{Coded}
 use Rattle.places.specs.Items.{is_entry, is_end, is_short, address, entries, nest}
 use Rattle.refusals.specs.Order.{when}
 use Rattle.places.specs.Looking.{Found, opener, sharer, short_one}

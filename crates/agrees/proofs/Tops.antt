@@ -12,8 +12,9 @@ use Rattle.items.specs.declared.LoopCount.TheVariants.{Immediate, Register}
 use Rattle.items.specs.declared.LoopMode.{LoopMode}
 use Rattle.items.specs.declared.LoopMode.TheVariants.{E2Active, F1Active}
 use Rattle.encode.specs.Encoding.{loop_form}
-use Rattle.coded.specs.declared.Coded.TheVariants.{LoopBegin}
-use Rattle.coded.specs.declared.Coded.{Coded}
+use Rattle.items.specs.declared.Item.TheVariants.{LoopBegin}
+use Rattle.std.specs.Prelude.{Ok}
+use Rattle.coded.specs.Coded.{Coded}
 use Rattle.places.specs.declared.OpenLoop.{OpenLoop}
 use Rattle.places.specs.Items.{address_of, address, nest}
 use Rattle.places.specs.Left.{Lent}
@@ -44,7 +45,7 @@ pub record Opener (it : ℕ → Coded) (i b : ℕ) : Type 0 where
   pub before : b < i
   pub count : LoopCount
   pub mode : LoopMode
-  pub begins : it b ≡ LoopBegin count mode
+  pub begins : it b ≡ Ok (LoopBegin count mode)
 
 pub opener-at : (it : ℕ → Coded) (i : ℕ) → 0 < nest it i → Opener it i (opener it i)
 opener-at it i h =

@@ -6,7 +6,7 @@ use mathlib.Core.Bool.{true}
 use mathlib.Core.List.{List, [], ◌∷◌}
 use lib.ListN.{drop, replicate}
 use Rattle.fields.specs.Parcels.{cut}
-use Rattle.refusals.specs.declared.Verdict.TheVariants.{Good}
+use Rattle.std.specs.Prelude.{Ok}
 use Rattle.items.specs.declared.VisaInstruction.{VisaInstruction}
 use Rattle.items.specs.declared.VisaInstruction.TheVariants as Visa
 use Rattle.items.specs.declared.Item.TheVariants as item
@@ -18,7 +18,6 @@ use Rattle.bounds.specs.Tables.{at}
 use Rattle.bounds.specs.Bounds.{fields, compute, bounds_of}
 use Rattle.bounds.specs.Checks.{inside}
 use Rattle.bounds.proofs.Twelve.{twelve}
-use Rattle.rows.specs.declared.Read.TheVariants as read
 use Rattle.rows.specs.Fields.{code, index, modifier, instruction_of, scalars, transfers, others}
 use Rattle.rows.specs.Rows.{read_of, item_of, single_fields, compute_of}
 use Rattle.rows.specs.Kept.{Below}
@@ -30,13 +29,13 @@ use Rattle.known.specs.Table.{line}
 -- ---- an instruction with the same parcels, read from another row
 pub record Alike (row : List ℕ) (v : VisaInstruction) : Type 0 where
   pub twin : VisaInstruction
-  pub reads : read_of row 0 ≡ read.Item (item.Instruction twin)
-  pub good : verdict_of twin ≡ Good
+  pub reads : read_of row 0 ≡ Ok (item.Instruction twin)
+  pub good : verdict_of twin ≡ Ok tt
   pub same : parcels_of twin ≡ parcels_of v
 
 alike :
     (row : List ℕ) (v w : VisaInstruction) → Below (bounds_of row) (drop 1 row) → inside (at row 0) (at row 1) (at row 2) (at row 3) 0 ≡ true →
-    item_of row ≡ read.Item (item.Instruction w) → verdict_of w ≡ Good → parcels_of w ≡ parcels_of v → Alike row v
+    item_of row ≡ Ok (item.Instruction w) → verdict_of w ≡ Ok tt → parcels_of w ≡ parcels_of v → Alike row v
 alike row v w h i r g p = record { twin = w; reads = read-item row 0 h i ∙ r; good = g; same = p }
 
 pub load-alike : (a b c : ℕ) → Inside 9 a b c → Alike (17 ∷ a ∷ b ∷ c ∷ replicate 13 0) (instruction_of 9 a b c)

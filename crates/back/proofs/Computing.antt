@@ -11,7 +11,8 @@ use Rattle.fields.specs.Pack.{Field, fixed, operand, field}
 use Rattle.fields.specs.Matching.{matches, found, apart}
 use Rattle.fields.proofs.Matching.{both, is_false, inner, not_both}
 use Rattle.refusals.proofs.Order.{AllGood, when-good}
-use Rattle.items.specs.declared.OptionalCompute.{OptionalCompute}
+use Rattle.std.specs.Prelude.{Option}
+use Rattle.items.specs.declared.Compute.{Compute}
 use Rattle.items.specs.declared.DataAccess.{DataAccess}
 use Rattle.items.specs.declared.MemoryAccess.{MemoryAccess}
 use Rattle.items.specs.declared.VisaInstruction.TheVariants as Visa
@@ -23,8 +24,9 @@ use Rattle.bounds.specs.Tables.{at}
 use Rattle.bounds.specs.Bounds.{data_access, memory_access}
 use Rattle.rows.specs.Rows.{data_access_of, memory_access_of}
 use Rattle.rows.specs.Kept.{Below}
+use Rattle.std.specs.Prelude.{Option, is_some}
 use Rattle.known.specs.declared.Held.{Held}
-use Rattle.known.specs.Table.{line3b, computing, beside_at, writes_to, dual_fine, memory_fine}
+use Rattle.known.specs.Table.{line3b, computing, beside_at, places_of, writes_to, dual_fine, memory_fine}
 use Rattle.back.proofs.Finding.{nth, in_nth, Listed, listed-computing, Stands, stands}
 use Rattle.back.proofs.Folded.{direction-back, update-back, dag_back, unmixed}
 use Rattle.back.proofs.Shapes.{places8}
@@ -65,7 +67,7 @@ pub compute-stands :
     (n : ℕ) (places : List ℕ) (one two : ℕ) → Computed n places one two → Stands 3 (type2a (whole n)) (32 ∷ (places ++ replicate 8 0))
 compute-stands n places one two c =
     stands (nth line3b computing 0) (three refl) (listed-apart 0 _ refl refl) refl
-    (makes (ap (λ (h : Held). h.fine) c.same) (ap (λ (h : Held). 32 ∷ (h.places ++ replicate 8 0)) c.same))
+    (makes (ap is_some c.same) (ap (λ (o : Option Held). 32 ∷ (places_of o ++ replicate 8 0)) c.same))
 
 -- ---- flags as bits
 bit_zero : (t : Bool) → eqb (bit_of t) 0 ≡ not t
@@ -77,18 +79,18 @@ bit-one true = refl
 bit-one false = refl
 
 -- ---- what an access refuses, as the table tests it
-module _ (o : OptionalCompute) (places : List ℕ) (b : Besides o places) where
+module _ (o : Option Compute) (places : List ℕ) (b : Besides o places) where
   dual_fine_lem :
       (dm pm : DataAccess) → dm.register.0 < 16 → pm.register.0 < 16 → dm_clashes o dm ≡ false → pm_clashes o dm pm ≡ false →
       dual_fine (beside_at (field_of o)) (bit_of (is_store dm.direction)) dm.register.0 (bit_of (is_store pm.direction)) pm.register.0 ≡ true
   unfolding dm_clashes pm_clashes
   dual_fine_lem dm pm h g c d =
-      rw (b.fine, bit_zero (is_store dm.direction), bit_zero (is_store pm.direction), b.writing dm.register.0 h, b.writing pm.register.0 g, c, d)
+      rw (b.same, bit_zero (is_store dm.direction), bit_zero (is_store pm.direction), b.writing dm.register.0 h, b.writing pm.register.0 g, c, d)
 
-  data_writes : (code : ℕ) → (ltb code 16 && writes_to (beside_at (field_of o)) code) ≡ (ltb code 16 && writes o code)
+  data_writes : (code : ℕ) → (ltb code 16 && writes_to b.beside code) ≡ (ltb code 16 && writes o code)
   data_writes code = go (ltb code 16) refl
     where
-      go : (t : Bool) → ltb code 16 ≡ t → (t && writes_to (beside_at (field_of o)) code) ≡ (t && writes o code)
+      go : (t : Bool) → ltb code 16 ≡ t → (t && writes_to b.beside code) ≡ (t && writes o code)
       go true e = b.writing code (ltb-true code 16 e)
       go false e = refl
 
@@ -98,7 +100,7 @@ module _ (o : OptionalCompute) (places : List ℕ) (b : Besides o places) where
   unfolding same_dag memory_clashes
   memory-fine access h c d =
       rw (
-        b.fine,
+        b.same,
         lt-ltb access.register.0 0x60 h,
         bit-one (is_post access.update),
         bit-one (is_store access.direction),
@@ -118,7 +120,7 @@ same_row :
 same_row o p q r s t u v w = rw (o, p, q, r, s, t, u, v, w)
 
 -- ---- kinds 33 and 34
-module _ (o : OptionalCompute) (places : List ℕ) (i : Besides o places) (a b c d e f g h : ℕ) where
+module _ (o : Option Compute) (places : List ℕ) (i : Besides o places) (a b c d e f g h : ℕ) where
   pub dual_stands :
       Below (data_access ++ data_access) (places8 a b c d e f g h) → AllGood (layout_of (Visa.DualMove o (data_access_of a b c d) (data_access_of e f g h))).refusals →
       Stands 3 (layout_of (Visa.DualMove o (data_access_of a b c d) (data_access_of e f g h))).fields (33 ∷ (places ++ places8 a b c d e f g h))
@@ -129,7 +131,7 @@ module _ (o : OptionalCompute) (places : List ℕ) (i : Besides o places) (a b c
       stands (nth line3b computing 1) (three refl) (listed-apart 1 _ refl refl) refl
       (makes
       (dual_fine_lem o places i (data_access_of a b c d) (data_access_of e f g h) (omega arith) (omega arith) (when-good _ _ p.1.1.1.1.0) (when-good _ _ p.1.1.1.1.1.0))
-      (same_row i.same (direction-back a w.0) (omega arith) (omega arith) (omega arith) (direction-back e (omega arith)) (omega arith)
+      (same_row (ap places_of i.same ∙ i.own) (direction-back a w.0) (omega arith) (omega arith) (omega arith) (direction-back e (omega arith)) (omega arith)
       (high-back g (omega arith) (when-good _ _ p.1.1.0)) (high-back h (omega arith) (when-good _ _ p.1.1.1.0))))
 
   pub memory-stands :
@@ -142,4 +144,4 @@ module _ (o : OptionalCompute) (places : List ℕ) (i : Besides o places) (a b c
       let y = dag_back (is_pm (c % 256)) (d % 256) (sym u) (omega arith) in
       stands (nth line3b computing 2) (three refl) (listed_3a _ i.unmarked) refl
       (makes (memory-fine o places i (memory_access_of a b c d e) (omega arith) (when-good _ _ p.1.0) (when-good _ _ p.1.1.0))
-      (same_row i.same (direction-back a w.0) (omega arith) (omega (arith, x)) (omega (arith, y)) (update-back e (omega arith)) refl refl refl))
+      (same_row (ap places_of i.same ∙ i.own) (direction-back a w.0) (omega arith) (omega (arith, x)) (omega (arith, y)) (update-back e (omega arith)) refl refl refl))

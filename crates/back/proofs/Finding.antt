@@ -15,8 +15,9 @@ use Rattle.fields.specs.Faithful.{Spells}
 use Rattle.fields.specs.Matching.{matches, operands, found, shape, raised, apart}
 use Rattle.fields.proofs.Matching.{both, is_false, reads-matches, reads-found, not_both, same_shape, same-found, matches-raised, found-raised}
 use Rattle.encode.proofs.Laid.{Wide, one, two, three}
+use Rattle.std.specs.Prelude.{Option, Some, None}
 use Rattle.known.specs.declared.Known.{Known}
-use Rattle.known.specs.Table.{Line, first_line, known, nothing, line3b, transfers, others, few_parcels, computing, table, known_in}
+use Rattle.known.specs.Table.{Line, first_line, known, line3b, transfers, others, few_parcels, computing, table, known_in}
 use Rattle.known.specs.Window.{window}
 use Rattle.known.specs.Front.{Parcels}
 use Rattle.known.proofs.Apart.{apart_from, all_apart, table-apart, apart_3b}
@@ -64,13 +65,13 @@ module _ {A : Type 0} (l : Line A) (word : ℕ) (m : matches l.form word ≡ tru
       rw (apart_in x.form ls i b.0) (first other ls i b.1)
 
 -- ---- the reader's table: a line is found by the words that are of its form and have these numbers
-abbrev pub Listed : Line Known → List ℕ → Type 0
+abbrev pub Listed : Line (Option Known) → List ℕ → Type 0
 Listed l ns = (word : ℕ) → matches l.form word ≡ true → found l.form word ≡ ns → known_in word ≡ l.made ns
 
-abbrev pub plain : List (Line Known)
+abbrev pub plain : List (Line (Option Known))
 plain = transfers ++ (others ++ few_parcels)
 
-after_3b : (word : ℕ) → matches line3b.form word ≡ false → known_in word ≡ first_line nothing (transfers ++ (others ++ (few_parcels ++ computing))) word
+after_3b : (word : ℕ) → matches line3b.form word ≡ false → known_in word ≡ first_line None (transfers ++ (others ++ (few_parcels ++ computing))) word
 unfolding known_in table
 after_3b word n = rw n
 
@@ -78,16 +79,16 @@ pub listed_3b : (ns : List ℕ) → Listed line3b ns
 unfolding known_in table
 listed_3b ns word m f = rw m (ap line3b.made f)
 
-pub listed_plain : (l : Line Known) (ns : List ℕ) → In l plain → Listed l ns
+pub listed_plain : (l : Line (Option Known)) (ns : List ℕ) → In l plain → Listed l ns
 listed_plain l ns i word m f =
     after_3b word (apart_in l word m line3b.form plain i apart_3b)
-    ∙ first l word m nothing (transfers ++ (others ++ (few_parcels ++ computing))) (in_left plain computing i) table-apart
+    ∙ first l word m None (transfers ++ (others ++ (few_parcels ++ computing))) (in_left plain computing i) table-apart
     ∙ ap l.made f
 
-pub listed-computing : (l : Line Known) (ns : List ℕ) → In l computing → ((word : ℕ) → matches l.form word ≡ true → found l.form word ≡ ns → matches line3b.form word ≡ false) → Listed l ns
+pub listed-computing : (l : Line (Option Known)) (ns : List ℕ) → In l computing → ((word : ℕ) → matches l.form word ≡ true → found l.form word ≡ ns → matches line3b.form word ≡ false) → Listed l ns
 listed-computing l ns i n word m f =
     after_3b word (n word m f)
-    ∙ first l word m nothing (transfers ++ (others ++ (few_parcels ++ computing))) (in_right plain i) table-apart
+    ∙ first l word m None (transfers ++ (others ++ (few_parcels ++ computing))) (in_right plain i) table-apart
     ∙ ap l.made f
 
 -- ---- the first parcels, over those that follow
@@ -113,7 +114,7 @@ window-word n word rest (three e) h r = rw e (window-three word rest (rw e at h)
 -- ---- THE LAW
 -- a line of the table has the fields' form, and their numbers stand for the row
 pub data Stands (n : ℕ) (fs : List Field) (row : List ℕ) : Type 0 where
-  stands : (l : Line Known) → Wide n → Listed l (operands fs) → l.form ≡ raised (48 - 16 * n) (shape fs) → l.made (operands fs) ≡ known n row → Stands n fs row
+  stands : (l : Line (Option Known)) → Wide n → Listed l (operands fs) → l.form ≡ raised (48 - 16 * n) (shape fs) → l.made (operands fs) ≡ Some (known n row) → Stands n fs row
 
 module _ (own : List ℕ) (n : ℕ) (fs : List Field) (s : Spells own n fs) (rest : List ℕ) (r : Parcels rest) where
   own-word : Wide n → window (own ++ rest) / 2 ^ (48 - 16 * n) ≡ pack fs
@@ -129,7 +130,7 @@ module _ (own : List ℕ) (n : ℕ) (fs : List Field) (s : Spells own n fs) (res
       found-raised (48 - 16 * n) (shape fs) (window (own ++ rest)) ∙ ap (found (shape fs)) (own-word w) ∙ same-found fs (pack fs)
       ∙ reads-found fs (pack fs) s.faithful.back
 
-  pub reads-row : (row : List ℕ) → Stands n fs row → known_in (window (own ++ rest)) ≡ known n row
+  pub reads-row : (row : List ℕ) → Stands n fs row → known_in (window (own ++ rest)) ≡ Some (known n row)
   reads-row row (stands l w i e q) =
       i (window (own ++ rest)) (ap (λ (gs : List Field). matches gs (window (own ++ rest))) e ∙ of-form w)
       (ap (λ (gs : List Field). found gs (window (own ++ rest))) e ∙ gives-numbers w)

@@ -1,7 +1,7 @@
 -- The numbers of a row's places, out of the fields that they were put into: signed numbers, flags, enumerations, indices and modifiers.
 use Prim.Native.Nat.{ℕ, suc, ◌+◌, ◌-◌, ◌*◌, ◌^◌, ◌%◌, ◌≤◌, ◌<◌}
 use native.Mathlib.Omega.{arith}
-use mathlib.Core.Path.{◌≡◌, refl}
+use mathlib.Core.Path.{◌≡◌, refl, ap}
 use mathlib.Core.Bool.{Bool, true, false, not, cond, beq, ◌&&◌}
 use lib.IntN.{pos, negsuc}
 use lib.Dec.{leb, ltb, eqb}
@@ -13,12 +13,18 @@ use Rattle.signs.proofs.Ints.{within_mag}
 use Rattle.words.specs.Forms.{bit_of, condition_code, is_store, is_post, is_f1}
 use Rattle.rows.specs.Fields.{condition_of, direction_of, update_of, mode_of, bool_of}
 use Rattle.known.proofs.UpTo.{up_to_lem}
+use Rattle.std.specs.Prelude.{Option, Some, None}
+use Rattle.std.specs.Option.{option_eq}
 use Rattle.known.specs.Table.{widened, condition_at}
 
 -- ---- by a test of each number below a bound
-pub condition-back : (a : ℕ) → a < 7 → condition_at (condition_code (condition_of a)) ≡ a
+pub condition-back : (a : ℕ) → a < 7 → condition_at (condition_code (condition_of a)) ≡ Some a
 unfolding condition_of
-condition-back a h = eqb-true _ _ (up_to_lem 7 (λ n. eqb (condition_at (condition_code (condition_of n))) n) a refl h)
+condition-back a h = found _ (up_to_lem 7 (λ n. option_eq eqb (condition_at (condition_code (condition_of n))) (Some n)) a refl h)
+  where
+    found : (o : Option ℕ) → option_eq eqb o (Some a) ≡ true → o ≡ Some a
+    found (Some n) e = ap Some (eqb-true n a e)
+    found None e = let z : ◌≡◌ {A = ℕ} 0 1 = cc in absurd (omega arith)
 
 pub bool-back : (c : ℕ) → c < 2 → bit_of (bool_of c) ≡ c
 bool-back c h = eqb-true _ _ (up_to_lem 2 (λ n. eqb (bit_of (bool_of n)) n) c refl h)

@@ -9,17 +9,14 @@ use lib.ListN.{length, replicate, take}
 use borrow.Author.Tests.{leb-true, eqb-true}
 use Rattle.fields.proofs.Matching.{both}
 use Rattle.items.specs.declared.Compute.{Compute}
-use Rattle.items.specs.declared.OptionalCompute.{OptionalCompute}
+use Rattle.std.specs.Prelude.{Ok, Option}
 use Rattle.items.specs.declared.VisaInstruction.{VisaInstruction}
 use Rattle.items.specs.declared.VisaInstruction.TheVariants as Visa
 use Rattle.items.specs.declared.Item.TheVariants as item
-use Rattle.computes.specs.declared.Made.TheVariants as made
 use Rattle.bounds.specs.Tables.{lookup, at}
 use Rattle.bounds.specs.Bounds.{spare, never, form, filled, fields, compute, data_access, memory_access, bounds_of}
 use Rattle.bounds.specs.Checks.{check_of}
 use Rattle.bounds.proofs.Filled.{front-compute, back-compute}
-use Rattle.rows.specs.declared.Beside.TheVariants as beside
-use Rattle.rows.specs.declared.Read.TheVariants as read
 use Rattle.rows.specs.Fields.{instruction_of}
 use Rattle.rows.specs.Rows.{read_of, item_of, compute_item, dual_item, memory_item, compute_of, beside_of, dm_of, pm_of, access_of}
 use Rattle.rows.specs.Kept.{Below}
@@ -67,7 +64,7 @@ abbrev pub named : ℕ → Bool
 named k = eqb k 48 || (eqb k 49 || eqb k 51)
 
 module _ (k a b c : ℕ) (vs : List ℕ) (v : VisaInstruction) where
-  not_named : item_of (k ∷ a ∷ b ∷ c ∷ vs) ≡ read.Item (item.Instruction v) → named k ≡ false
+  not_named : item_of (k ∷ a ∷ b ∷ c ∷ vs) ≡ Ok (item.Instruction v) → named k ≡ false
   unfolding item_of
   not_named e = go (eqb k 48) (eqb k 49) (eqb k 51) refl refl refl
     where
@@ -95,15 +92,15 @@ pub data Shaped (row : List ℕ) (v : VisaInstruction) : Type 0 where
   shaped-plain : (k a b c : ℕ) → row ≡ line k a b c → named k ≡ false → Inside k a b c → v ≡ instruction_of k a b c → Shaped row v
   shaped-compute :
       (a b c d e f g h : ℕ) (m : Compute) → row ≡ row8 32 a b c d e f g h (replicate 8 0) → eqb a 0 ≡ false → Eight never 32 a b c d e f g h (replicate 8 0) →
-      compute_of row ≡ made.Made m → v ≡ Visa.Compute m → Shaped row v
+      compute_of row ≡ Ok m → v ≡ Visa.Compute m → Shaped row v
   shaped_dual :
-      (a b c d e f g h p q r s t u x y : ℕ) (o : OptionalCompute) → row ≡ row8 33 a b c d e f g h (places8 p q r s t u x y) →
+      (a b c d e f g h p q r s t u x y : ℕ) (o : Option Compute) → row ≡ row8 33 a b c d e f g h (places8 p q r s t u x y) →
       Eight form 33 a b c d e f g h (places8 p q r s t u x y) → Below (data_access ++ data_access) (places8 p q r s t u x y) →
-      beside_of row ≡ beside.Compute o → v ≡ Visa.DualMove o (dm_of row) (pm_of row) → Shaped row v
+      beside_of row ≡ Ok o → v ≡ Visa.DualMove o (dm_of row) (pm_of row) → Shaped row v
   shaped-memory :
-      (a b c d e f g h p q r s t : ℕ) (o : OptionalCompute) → row ≡ row8 34 a b c d e f g h (places8 p q r s t 0 0 0) →
+      (a b c d e f g h p q r s t : ℕ) (o : Option Compute) → row ≡ row8 34 a b c d e f g h (places8 p q r s t 0 0 0) →
       Eight form 34 a b c d e f g h (places8 p q r s t 0 0 0) → Below memory_access (places8 p q r s t 0 0 0) →
-      beside_of row ≡ beside.Compute o → v ≡ Visa.MemoryMove o (access_of row) → Shaped row v
+      beside_of row ≡ Ok o → v ≡ Visa.MemoryMove o (access_of row) → Shaped row v
 
 module _ (a b c d e f g h p q r s t u x y : ℕ) (v : VisaInstruction) where
   abbrev qs : List ℕ
@@ -115,7 +112,7 @@ module _ (a b c d e f g h p q r s t u x y : ℕ) (v : VisaInstruction) where
   abbrev after : List ℕ
   after = a ∷ b ∷ c ∷ d ∷ e ∷ f ∷ g ∷ h ∷ qs
 
-  compute-shape : Below (bounds_of (row 32)) after → compute_item (compute_of (row 32)) ≡ read.Item (item.Instruction v) → Shaped (row 32) v
+  compute-shape : Below (bounds_of (row 32)) after → compute_item (compute_of (row 32)) ≡ Ok (item.Instruction v) → Shaped (row 32) v
   unfolding bounds_of
   compute-shape w i =
       let m = made-is (compute_of (row 32)) v i in
@@ -125,7 +122,7 @@ module _ (a b c d e f g h p q r s t u x y : ℕ) (v : VisaInstruction) where
       shaped-compute a b c d e f g h m.0 (ap (λ (l : List ℕ). row8 32 a b c d e f g h l) z) (nonzero a b c d e f g h p q r s t u x y v front)
       (subst (Eight never 32 a b c d e f g h) z front) m.1 m.2
 
-  dual_shape : Below (bounds_of (row 33)) after → dual_item (dm_of (row 33)) (pm_of (row 33)) (beside_of (row 33)) ≡ read.Item (item.Instruction v) → Shaped (row 33) v
+  dual_shape : Below (bounds_of (row 33)) after → dual_item (dm_of (row 33)) (pm_of (row 33)) (beside_of (row 33)) ≡ Ok (item.Instruction v) → Shaped (row 33) v
   unfolding bounds_of
   dual_shape w i =
       let m = dual_is (dm_of (row 33)) (pm_of (row 33)) (beside_of (row 33)) v i in
@@ -134,7 +131,7 @@ module _ (a b c d e f g h p q r s t u x y : ℕ) (v : VisaInstruction) where
       (front8 a b c d e f g h p q r s t u x y v 33 (data_access ++ data_access) bounds) (back8 a b c d e f g h p q r s t u x y v 33 (data_access ++ data_access) bounds)
       m.1 m.2
 
-  memory-shape : Below (bounds_of (row 34)) after → memory_item (access_of (row 34)) (beside_of (row 34)) ≡ read.Item (item.Instruction v) → Shaped (row 34) v
+  memory-shape : Below (bounds_of (row 34)) after → memory_item (access_of (row 34)) (beside_of (row 34)) ≡ Ok (item.Instruction v) → Shaped (row 34) v
   unfolding bounds_of
   memory-shape w i =
       let m = memory-is (access_of (row 34)) (beside_of (row 34)) v i in
@@ -147,13 +144,13 @@ module _ (a b c d e f g h p q r s t u x y : ℕ) (v : VisaInstruction) where
 
   plain-shape :
       (k : ℕ) → eqb k 32 ≡ false → eqb k 33 ≡ false → eqb k 34 ≡ false → eqb k 50 ≡ false → v ≡ instruction_of k a b c → Below (bounds_of (row k)) after →
-      item_of (row k) ≡ read.Item (item.Instruction v) → Shaped (row k) v
+      item_of (row k) ≡ Ok (item.Instruction v) → Shaped (row k) v
   plain-shape k h32 h33 h34 h50 j w i =
       let vs = d ∷ e ∷ f ∷ g ∷ h ∷ qs in
       let z = rest_zero (lookup k fields (never ∷ [])) a b c vs (short-line k) refl (line-bounds k a b c vs h32 h33 h34 h50 w) in
       shaped-plain k a b c (ap (λ (l : List ℕ). k ∷ a ∷ b ∷ c ∷ l) z) (not_named k a b c vs v i) (inside k a b c vs h32 h33 h34 h50 w) j
 
-  row-shape : (k : ℕ) → read_of (row k) 0 ≡ read.Item (item.Instruction v) → Shaped (row k) v
+  row-shape : (k : ℕ) → read_of (row k) 0 ≡ Ok (item.Instruction v) → Shaped (row k) v
   unfolding read_of
   row-shape k i =
       let n = known k a b c (d ∷ e ∷ f ∷ g ∷ h ∷ qs) 0 v i in
@@ -161,7 +158,7 @@ module _ (a b c d e f g h p q r s t u x y : ℕ) (v : VisaInstruction) where
       go n.bounds good.1 n.kind
     where
       go :
-          Below (bounds_of (row k)) after → item_of (row k) ≡ read.Item (item.Instruction v) →
+          Below (bounds_of (row k)) after → item_of (row k) ≡ Ok (item.Instruction v) →
           Which k v (instruction_of k a b c) (compute_item (compute_of (row k))) (dual_item (dm_of (row k)) (pm_of (row k)) (beside_of (row k))) (memory_item (access_of (row k)) (beside_of (row k))) →
           Shaped (row k) v
       go w i (is_plain h32 h33 h34 h50 j) = plain-shape k h32 h33 h34 h50 j w i
@@ -170,7 +167,7 @@ module _ (a b c d e f g h p q r s t u x y : ℕ) (v : VisaInstruction) where
       go w i (is-memory j z) = rw j (memory-shape (rw j at w) (rw j at z))
 
 -- THE LAW of shapes
-pub shaped : (row : List ℕ) (v : VisaInstruction) → length row ≡ 17 → read_of row 0 ≡ read.Item (item.Instruction v) → Shaped row v
+pub shaped : (row : List ℕ) (v : VisaInstruction) → length row ≡ 17 → read_of row 0 ≡ Ok (item.Instruction v) → Shaped row v
 shaped row v long i =
     let same = spread_same 17 row long in
     subst (λ (l : List ℕ). Shaped l v) (sym same)

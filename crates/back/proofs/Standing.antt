@@ -23,6 +23,7 @@ use Rattle.encode.proofs.Laid.{Wide, one, two, three}
 use Rattle.bounds.specs.Bounds.{fields}
 use Rattle.rows.specs.Fields.{instruction_of, scalars, transfers, others, condition_of, signed}
 use Rattle.faithful.proofs.Lines.{◌&◌, Each, Inside, by_kind}
+use Rattle.std.specs.Prelude.{Some, is_some}
 use Rattle.known.specs.Table.{known, known_if, line, line3b, code_fine, source, condition_at}
 use Rattle.back.proofs.Finding.{nth, in_nth, plain, listed_plain, listed_3b, Stands, stands}
 use Rattle.back.proofs.Folded.{condition-back, bool-back, dag_back, unmixed, signed_back, whole_back, far-back}
@@ -32,13 +33,13 @@ use Rattle.back.proofs.Larger.{lower}
 -- ---- a line of the table, and what its numbers make
 pub at-line :
     (i : ℕ) {n : ℕ} {fs : List Field} {row : List ℕ} → Wide n → ltb i (length plain) ≡ true → (nth line3b plain i).form ≡ raised (48 - 16 * n) (shape fs) →
-    (nth line3b plain i).made (operands fs) ≡ known n row → Stands n fs row
+    (nth line3b plain i).made (operands fs) ≡ Some (known n row) → Stands n fs row
 at-line i {n} {fs} w b e q = stands (nth line3b plain i) w (listed_plain (nth line3b plain i) (operands fs) (in_nth line3b plain i b)) e q
 
-at_3b : {n : ℕ} {fs : List Field} {row : List ℕ} → Wide n → line3b.form ≡ raised (48 - 16 * n) (shape fs) → line3b.made (operands fs) ≡ known n row → Stands n fs row
+at_3b : {n : ℕ} {fs : List Field} {row : List ℕ} → Wide n → line3b.form ≡ raised (48 - 16 * n) (shape fs) → line3b.made (operands fs) ≡ Some (known n row) → Stands n fs row
 at_3b {n} {fs} w e q = stands line3b w (listed_3b (operands fs)) e q
 
-pub makes : {t : Bool} {n : ℕ} {row row' : List ℕ} → t ≡ true → row ≡ row' → known_if t n row ≡ known n row'
+pub makes : {t : Bool} {n : ℕ} {row row' : List ℕ} → t ≡ true → row ≡ row' → known_if t n row ≡ Some (known n row')
 makes e q = rw (e, q)
 
 pub same : {k k' a a' b b' c c' : ℕ} → k ≡ k' → a ≡ a' → b ≡ b' → c ≡ c' → line k a b c ≡ line k' a' b' c'
@@ -52,8 +53,8 @@ code-fine : (code : ℕ) (store : Bool) → code < 0x60 → (store && in_dag cod
 code-fine code true h e = and_true (lt-ltb code 0x60 h) (rw e)
 code-fine code false h e = and_true (lt-ltb code 0x60 h) refl
 
-condition-fine : (a : ℕ) → a < 7 → ltb (condition_at (condition_code (condition_of a))) 7 ≡ true
-condition-fine a h = rw (condition-back a h) (lt-ltb a 7 h)
+condition-fine : (a : ℕ) → a < 7 → is_some (condition_at (condition_code (condition_of a))) ≡ true
+condition-fine a h = rw (condition-back a h)
 
 -- a source parted over three fields
 source-back : (n : ℕ) → source (n / 4) (n / 2 % 2) (n % 2) ≡ n
@@ -113,7 +114,7 @@ each_stands =
     (λ l n. not_here l) &
     (λ l n a b c h p.
     inl (at-line 6 (three refl) refl refl
-    (makes (condition-fine a h.0) (same refl (condition-back a h.0) (signed_back b 24 0x7f_ffff h.1.0 (omega arith) refl (not-false _ (when-good _ _ p.0))) (bool-back c h.1.1.0))))) &  -- JumpRelative
+    (makes (condition-fine a h.0) (same refl (rw (condition-back a h.0)) (signed_back b 24 0x7f_ffff h.1.0 (omega arith) refl (not-false _ (when-good _ _ p.0))) (bool-back c h.1.1.0))))) &  -- JumpRelative
     (λ l n a b c h p. inl (at-line 7 (three refl) refl refl (makes refl (same refl refl (omega arith) (omega arith))))) &  -- CJump
     (λ l n. not_here l) &  -- PushImmediate
     (λ l n a b c h p. inr (refl, same refl (omega arith) (omega arith) (omega arith))) &  -- LeafReturn

@@ -3,9 +3,7 @@
 #![tactic(auto)]
 
 fn main(rt: HostRuntime) {
-    let mut rows = [0u32; 8704];
-    let mut names = [0u8; 2048];
     let mut out = [0u8; 15384];
     let mut buf = [0u8; 65536];
-    printed::input::read_all(&rt, &mut buf, &mut rows, &mut names, &mut out);
+    printed::input::read_all(&rt, &mut buf, &mut out);
 }

@@ -7,8 +7,7 @@ use native.Mathlib.Nat.{le_of_suc-le-suc, not-suc-le-zero}
 use native.Mathlib.Numerals.{add-one}
 use lib.ListN.{length, get_or, take, drop, length-drop, take-append-drop}
 use lib.Seq.{drop-cons, get_or-drop, drop-length, drop-drop, length-take-le}
-use Rattle.bounds.specs.declared.Places.{Places}
-use Rattle.bounds.specs.Checks.{said, place}
+use Rattle.bounds.specs.Checks.{Places, said, place}
 
 abbrev pub tail_places : List ℕ → List ℕ → Places → ℕ → Places
 tail_places bounds row rest k = said (drop k bounds) (drop k row) rest

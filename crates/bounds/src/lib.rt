@@ -4,7 +4,7 @@
 ghost use Rattle.std.specs.Prelude.{◌≡◌, ◌∷◌, [], ◌+◌, ◌≤◌, length, take, drop};
 ghost use Rattle.bounds.specs.Tables.{lookup};
 ghost use Rattle.bounds.specs.Bounds.{never, form, is_instruction, is_compute, single, fields, compute, bounds_of, filled};
-ghost use Rattle.bounds.specs.Checks.{late, place, said, places_of, inside, check_of};
+ghost use Rattle.bounds.specs.Checks.{late, place, said, places_of, inside, refusal_of, check_of};
 
 use refusals::{Refusal, Verdict};
 
@@ -37,13 +37,26 @@ const CHOICE: u64 = 2;
 
 const FORM: u64 = 3;
 
-// What the places of a row say: each holds a number below its bound, one does not, or the first of the universal codes of
+// Why the places of a row don't hold numbers below their bounds: one holds another number, or it is the first of the universal codes of
 // 0x60 or more.
 #[derive(Clone, Copy)]
-pub enum Places {
-    Fine,
+pub enum Misfit {
     Bad,
     Code(u32),
+}
+
+// What the places of a row say.
+pub type Places = Result<(), Misfit>;
+
+impl From<Misfit> for Refusal {
+    ghost from_gives = { λ misfit refusal. refusal ≡ refusal_of misfit };
+
+    fn from(misfit: Misfit) -> Refusal {
+        match misfit {
+            Misfit::Bad => Refusal::Row,
+            Misfit::Code(v) => Refusal::InvalidUniversalRegister(v),
+        }
+    }
 }
 
 // The first eight bounds of a kind whose fields' bounds are the same in each row; nothing fits the first place of any other kind.
@@ -97,14 +110,14 @@ fn fixed(kind: u32) -> [u64; 8]
 fn is_compute(kind: u32) -> bool
     ensures { result ≡ is_compute kind }
 {
-    kind <= 8 || 25 <= kind && kind <= 27
+    matches!(kind, 0..=8 | 25..=27)
 }
 
 // Whether a kind is an instruction's.
 fn is_instruction(kind: u32) -> bool
     ensures { result ≡ is_instruction kind }
 {
-    kind <= 12 || 16 <= kind && kind <= 39
+    matches!(kind, 0..=12 | 16..=39)
 }
 
 // The eight bounds of a single compute of a kind.
@@ -176,9 +189,8 @@ fn late_code(v: u32, rest: Places) -> Places
     ensures { result ≡ late v rest }
 {
     match rest {
-        Places::Fine => Places::Code(v),
-        Places::Bad => Places::Bad,
-        Places::Code(_) => Places::Code(v),
+        Err(Misfit::Bad) => rest,
+        _ => Err(Misfit::Code(v)),
     }
 }
 
@@ -191,7 +203,7 @@ fn held(bound: u64, v: u32, rest: Places) -> Places
     } else if bound == CODE {
         late_code(v, rest)
     } else {
-        Places::Bad
+        Err(Misfit::Bad)
     }
 }
 
@@ -201,9 +213,7 @@ fn eight(row: &[u32], from: usize, bounds: [u64; 8], rest: Places) -> Places
     ensures { result ≡ said bounds (drop from row.now) rest }
 {
     let mut found = rest;
-    let mut k: usize = 8;
-    while 0 < k {
-        k -= 1;
+    for k in (0..8).rev() {
         found = held(bounds[k], row[from + k], found);
     }
     found
@@ -214,7 +224,7 @@ fn sixteen(row: &[u32]) -> Places
     requires { length row.now ≡ 17 }
     ensures { result ≡ places_of row.now }
 {
-    let last = eight(row, 9, back(row), Places::Fine);
+    let last = eight(row, 9, back(row), Ok(()));
     eight(row, 1, front(row), last)
 }
 
@@ -236,11 +246,8 @@ pub fn check(row: &[u32], names: usize) -> Verdict
     ensures { result ≡ check_of row.now names }
 {
     if !name_inside(row[0], row[1], row[2], row[3], names) {
-        return Verdict::Refused(Refusal::Row);
+        return Err(Refusal::Row);
     }
-    match sixteen(row) {
-        Places::Fine => Verdict::Good,
-        Places::Bad => Verdict::Refused(Refusal::Row),
-        Places::Code(v) => Verdict::Refused(Refusal::InvalidUniversalRegister(v)),
-    }
+    sixteen(row)?;
+    Ok(())
 }

@@ -7,13 +7,11 @@ use native.Mathlib.Omega.{arith}
 use lib.ListN.{length}
 use lib.Dec.{ltb}
 use Rattle.refusals.specs.declared.Refusal.TheVariants.{RowSlice}
-use Rattle.refusals.specs.declared.Verdict.{Verdict}
-use Rattle.refusals.specs.declared.Verdict.TheVariants.{Good, Refused}
-use Rattle.coded.specs.declared.Coded.{Coded}
+use Rattle.std.specs.Prelude.{Ok, Err}
+use Rattle.refusals.specs.Answers.{Verdict, Answer}
+use Rattle.coded.specs.Coded.{Coded}
 use Rattle.rows.specs.Rows.{well_formed, most_rows}
 use Rattle.rows.proofs.Limit.{rows_few}
-use Rattle.refusals.specs.declared.Answer.{Answer}
-use Rattle.refusals.specs.declared.Answer.TheVariants as answer
 use Rattle.places.specs.declared.Rooms.{Rooms}
 use Rattle.places.specs.Items.{kernel, kernel_of, row_at, row_count}
 use Rattle.refusals.specs.Order.{or_else}
@@ -52,14 +50,14 @@ module _ (rs ns : List ℕ) (r : Rooms) (lent : Lent) where
   abbrev m₀ : Mem
   m₀ = mem_of zero_state lent
 
-  well : formed rs ≡ Good → well_formed (length rs) ≡ true
+  well : formed rs ≡ Ok tt → well_formed (length rs) ≡ true
   well e = go (well_formed (length rs)) refl
     where
       go : (b : Bool) → well_formed (length rs) ≡ b → well_formed (length rs) ≡ true
       go true q = q
       go false q = absurd (refused-good RowSlice (rw q at e))
 
-  module _ (rooms : RoomingIn r lent) (w : well_formed (length rs) ≡ true) (good : took_verdict rs ns r lent ≡ Good) where
+  module _ (rooms : RoomingIn r lent) (w : well_formed (length rs) ≡ true) (good : took_verdict rs ns r lent ≡ Ok tt) where
     abbrev C : ℕ → Mem → Verdict
     C = row_chk (kernel_of rs ns) r
 
@@ -113,10 +111,10 @@ module _ {rs ns : List ℕ} {r : Rooms} {lent : Lent} {t : Taking} {lent' : Lent
   -- what the rows and the end come to, were the slice rows or not
   by_form : (b : Bool)
       → let k = kernel ns (row_at rs ns) (cond b (row_count rs) 0) in
-      finish (kernel_of rs ns) (close_row (kernel_of rs ns) (rows_end k r (mem_of zero_state lent))) (or_else (cond b Good (Refused RowSlice)) (close_verdict (rows_verdict k r (mem_of zero_state lent)) (rows_mem k r (mem_of zero_state lent)))) (closed (rows_mem k r (mem_of zero_state lent)))
-      ≡ cond b (built (kernel_of rs ns) lent) (outcome (answer.Refused RowSlice 0) lent)
+      finish (kernel_of rs ns) (close_row (kernel_of rs ns) (rows_end k r (mem_of zero_state lent))) (or_else (cond b (Ok tt) (Err RowSlice)) (close_verdict (rows_verdict k r (mem_of zero_state lent)) (rows_mem k r (mem_of zero_state lent)))) (closed (rows_mem k r (mem_of zero_state lent)))
+      ≡ cond b (built (kernel_of rs ns) lent) (outcome (Err (record { why = RowSlice; row = 0 })) lent)
   by_form true = ap (λ (y : Rooms). out_of (kernel_of rs ns) y (mem_of zero_state lent)) e ∙ same (kernel_of rs ns) lent (row_fine rs ns)
-  by_form false = ap (λ (row : ℕ). outcome (answer.Refused RowSlice row) lent) (pick_same (ltb 0 (row_count rs)) 0 0 refl)
+  by_form false = ap (λ (row : ℕ). outcome (Err (record { why = RowSlice; row = row })) lent) (pick_same (ltb 0 (row_count rs)) 0 0 refl)
 
   pub built-is : {a : Answer} {left : Lent} → Finished (kernel_of rs ns) t (with_loops lent' []) a left → Builds rs ns lent (answered a) (with_loops left lent'.loops)
   built-is {a} {left} h =

@@ -1,8 +1,7 @@
 -- An instrument of the build's proof: the end of a build. The loop table stays as it is there, whatever it is.
-use Rattle.std.specs.Prelude.{◌≡◌, List, ℕ, ◌≤◌, length}
+use Rattle.std.specs.Prelude.{◌≡◌, List, ℕ, ◌≤◌, length, Ok}
 use Rattle.refusals.specs.declared.Refusal.{Refusal}
-use Rattle.refusals.specs.declared.Verdict.TheVariants.{Good}
-use Rattle.refusals.specs.declared.Answer.{Answer}
+use Rattle.refusals.specs.Answers.{Answer}
 use Rattle.rows.specs.Rows.{most_rows}
 use Rattle.places.specs.declared.OpenLoop.{OpenLoop}
 use Rattle.places.specs.Items.{Kernel}
@@ -34,7 +33,7 @@ pub record Passed (k : Kernel) (row : ℕ) : Type 0 where
 pub record Finishing (k : Kernel) (t : Taking) (lent : Lent) : Type 0 where
   pub passed : Passed k t.row
   pub used : Used t.state.at t.state.labels t.state.jumps (length lent.parcels) (length lent.labels) (length lent.jumps)
-  pub aims : t.verdict ≡ Good → AimsFine k lent.labels t.state.labels lent.jumps t.state.jumps (length lent.parcels)
+  pub aims : t.verdict ≡ Ok tt → AimsFine k lent.labels t.state.labels lent.jumps t.state.jumps (length lent.parcels)
 
 pub record Finished (k : Kernel) (t : Taking) (lent : Lent) (a : Answer) (left : Lent) : Type 0 where
   pub ends : (loops : List OpenLoop) → Ends (finish k (close_row k t.row) t.verdict (mem_of t.state (with_loops lent loops))) a (with_loops left loops)

@@ -12,7 +12,7 @@ ghost use Rattle.build.specs.Finish.{Wiped, Passed, Finishing, Finished};
 
 use machine::State;
 use places::{OpenLoop, Rooms, ZERO_LOOP};
-use refusals::{Answer, Refusal, Verdict};
+use refusals::{Answer, Refused};
 use rows::ROW_WIDTH;
 use taking::Taking;
 
@@ -29,18 +29,17 @@ fn named_row(rows: &[u32], names: &[u8], row: usize) -> u32
 
 // The answer of a refusal that names a row, with zeros in what the rows took.
 fn refused(
-    why: Refusal,
-    row: u32,
+    why: Refused,
     state: State,
     parcels: &mut [u16],
     labels: &mut [u32],
     jumps: &mut [u32],
 ) -> Answer
     requires { Used state.at state.labels state.jumps (length parcels.old) (length labels.old) (length jumps.old) }
-    ensures { Wiped why row state (lent_of parcels.old labels.old jumps.old []) result (lent_of parcels.new labels.new jumps.new []) }
+    ensures { Wiped why.why why.row state (lent_of parcels.old labels.old jumps.old []) result (lent_of parcels.new labels.new jumps.new []) }
 {
     settling::wipes::clear(state.at, state.labels, state.jumps, parcels, labels, jumps);
-    Answer::Refused(why, row)
+    Err(why)
 }
 
 // Once all rows are taken in and every loop is closed: the rows' refusal, or the waiting jumps in item order; a refusal leaves zeros in
@@ -57,13 +56,9 @@ fn finish(
     ensures { Finished (kernel_of rows.now names.now) t (lent_of parcels.old labels.old jumps.old []) result (lent_of parcels.new labels.new jumps.new []) }
 {
     let state = t.state;
-    let verdict = t.verdict;
-    match verdict {
-        Verdict::Refused(r) => {
-            let row = named_row(rows, names, t.row);
-            return refused(r, row, state, parcels, labels, jumps);
-        }
-        Verdict::Good => {}
+    if let Err(why) = t.verdict {
+        let row = named_row(rows, names, t.row);
+        return refused(why.at(row), state, parcels, labels, jumps);
     }
     let aims = settling::aim_all(
         rows,
@@ -74,10 +69,9 @@ fn finish(
         jumps,
         state.jumps,
     );
-    let aimed = aims.verdict;
-    match aimed {
-        Verdict::Refused(r) => refused(r, aims.row, state, parcels, labels, jumps),
-        Verdict::Good => Answer::Accepted(state.at as u32),
+    match aims {
+        Ok(()) => Ok(state.at as u32),
+        Err(why) => refused(why, state, parcels, labels, jumps),
     }
 }
 
@@ -116,8 +110,7 @@ pub fn build_alone(
 ) -> Answer
     ensures { BuildsAlone rows.now names.now (lent_of parcels.old labels.old jumps.old []) (answered result) (lent_of parcels.new labels.new jumps.new []) }
 {
-    let zero = ZERO_LOOP;
-    let mut loops = [zero; 64];
+    let mut loops = [ZERO_LOOP; 64];
     build(
         rows,
         names,
@@ -133,12 +126,7 @@ fn part(names: &[u8], start: usize, len: usize) -> &[u8]
     requires { (start ≤ 4294967295) × (len ≤ 4294967295) }
     ensures { result.now ≡ part names.now start len }
 {
-    let end = start + len;
-    if end <= names.len() {
-        &names[start..end]
-    } else {
-        &names[0..0]
-    }
+    names.get(start..start + len).unwrap_or(&[])
 }
 
 // The name of a refusal, 11, 12 or 28: that part of the names. Any other answer gives an empty part.

@@ -1,7 +1,7 @@
 -- An instrument of the build's proof: what an item is refused for at its place, by numbers alone.
 use Rattle.std.specs.Prelude.{◌&&◌, List, [], ◌∷◌, ℕ, ◌+◌, ltb}
 use Rattle.refusals.specs.declared.Refusal.TheVariants.{DuplicateLabel, BranchInLoop, LabelInLoop, NoRoomForParcels, NoRoomForLabels, NoRoomForJumps, NoRoomForLoops}
-use Rattle.refusals.specs.declared.Verdict.{Verdict}
+use Rattle.refusals.specs.Answers.{Verdict}
 use Rattle.refusals.specs.Order.{when, first}
 use Rattle.items.specs.Kinds.{is_branch}
 use Rattle.encode.specs.Encoding.{form_verdict}

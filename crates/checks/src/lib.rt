@@ -13,7 +13,6 @@ use coded::Coding;
 use items::Kind;
 use places::Rooms;
 use refusals::{Refusal, Verdict};
-use tables::Sought;
 
 // Whether n parcels fit into their room, the first of them at place `at`.
 fn room_check(rooms: Rooms, at: usize, n: usize) -> Verdict
@@ -22,19 +21,16 @@ fn room_check(rooms: Rooms, at: usize, n: usize) -> Verdict
 {
     let room = rooms.parcels;
     if room < at + n {
-        return Verdict::Refused(Refusal::NoRoomForParcels(room as u32));
+        return Err(Refusal::NoRoomForParcels(room as u32));
     }
-    Verdict::Good
+    Ok(())
 }
 
 // Whether a branch would stand in a loop.
 fn bars(depth: usize, kind: Kind) -> bool
     ensures { result ≡ (is_branch kind && ltb 0 depth) }
 {
-    if items::is_branch(kind) {
-        return 0 < depth;
-    }
-    false
+    items::is_branch(kind) && 0 < depth
 }
 
 // What an instruction is refused for: a branch in a loop, its encoding, the room.
@@ -42,16 +38,11 @@ pub fn instruction(rooms: Rooms, at: usize, depth: usize, coding: Coding) -> Ver
     requires { (at ≤ most_parcels) × (rooms.parcels ≤ most_parcels) }
     ensures { result ≡ instruction_chk rooms at depth coding }
 {
-    let form = coding.form;
-    let kind = coding.kind;
-    if bars(depth, kind) {
-        return Verdict::Refused(Refusal::BranchInLoop);
+    if bars(depth, coding.kind) {
+        return Err(Refusal::BranchInLoop);
     }
-    let encodes = encode::form_verdict(form);
-    match encodes {
-        Verdict::Refused(r) => Verdict::Refused(r),
-        Verdict::Good => room_check(rooms, at, encode::form_size(form)),
-    }
+    encode::form_verdict(coding.form)?;
+    room_check(rooms, at, encode::form_size(coding.form))
 }
 
 // What a label is refused for, n entries standing: a loop around it, the same name before it, the room.
@@ -68,20 +59,16 @@ pub fn label(
     ensures { result ≡ label_chk rooms depth names.now labels.now n start len }
 {
     if 0 < depth {
-        return Verdict::Refused(Refusal::LabelInLoop(start, len));
+        return Err(Refusal::LabelInLoop(start, len));
     }
-    let found = tables::names::find(names, labels, n, start as usize, len as usize);
-    match found {
-        Sought::At(_) => {
-            return Verdict::Refused(Refusal::DuplicateLabel(start, len));
-        }
-        Sought::Nowhere => {}
+    if tables::names::find(names, labels, n, start as usize, len as usize).is_some() {
+        return Err(Refusal::DuplicateLabel(start, len));
     }
     let room = rooms.labels;
     if room < n + 1 {
-        return Verdict::Refused(Refusal::NoRoomForLabels(room as u32));
+        return Err(Refusal::NoRoomForLabels(room as u32));
     }
-    Verdict::Good
+    Ok(())
 }
 
 // What a jump is refused for, so many jumps waiting: a loop around it, the rooms.
@@ -90,11 +77,11 @@ pub fn jump(rooms: Rooms, at: usize, jumps: usize, depth: usize) -> Verdict
     ensures { result ≡ jump_chk rooms at jumps depth }
 {
     if 0 < depth {
-        return Verdict::Refused(Refusal::BranchInLoop);
+        return Err(Refusal::BranchInLoop);
     }
     let room = rooms.jumps;
     if room < jumps + 1 {
-        return Verdict::Refused(Refusal::NoRoomForJumps(room as u32));
+        return Err(Refusal::NoRoomForJumps(room as u32));
     }
     room_check(rooms, at, 3)
 }
@@ -106,7 +93,7 @@ pub fn loop_begin(rooms: Rooms, at: usize, depth: usize) -> Verdict
 {
     let room = rooms.loops;
     if room < depth + 1 {
-        return Verdict::Refused(Refusal::NoRoomForLoops(room as u32));
+        return Err(Refusal::NoRoomForLoops(room as u32));
     }
     room_check(rooms, at, 3)
 }

@@ -9,13 +9,15 @@ use Rattle.items.specs.declared.Condition.{Condition}
 use Rattle.items.specs.declared.LoopMode.{LoopMode}
 use Rattle.items.specs.declared.LoopCount.{LoopCount}
 use Rattle.items.specs.declared.LoopCount.TheVariants.{Immediate, Register}
-use Rattle.rows.specs.declared.Read.{Read}
+use Rattle.std.specs.Prelude.{Ok, Result}
+use Rattle.items.specs.declared.Item.{Item}
+use Rattle.items.specs.declared.VisaInstruction.{VisaInstruction}
+use Rattle.refusals.specs.declared.Refusal.{Refusal}
+use Rattle.coded.specs.Coded.{Coded, coded_of}
 use Rattle.rows.specs.Fields.{count_of, code}
 use Rattle.rows.specs.Rows.{read_of}
 use Rattle.rows.proofs.Cases.{read_cases}
-use Rattle.coded.specs.declared.Coded.{Coded}
-use Rattle.coded.specs.declared.Coded.TheVariants.{Label, Jump, LoopBegin}
-use Rattle.coded.specs.Coded.{coded_of}
+use Rattle.items.specs.declared.Item.TheVariants.{Label, Jump, LoopBegin}
 use Rattle.coded.specs.Fine.{CountFine, CodedFine}
 
 either : (t : Bool) (a b : LoopCount) → CountFine a → CountFine b → CountFine (cond t a b)
@@ -30,16 +32,16 @@ count-fine choice v =
 
 pub coded-fine : (row : List ℕ) (names : ℕ) → CodedFine names (coded_of (read_of row names))
 coded-fine row names =
-    read_cases (λ (r : Read). CodedFine names (coded_of r)) (λ r. tt) (λ v. tt) names (λ start length h. h) (λ v start length h. h)
+    read_cases (λ (r : Result (Item VisaInstruction) Refusal). CodedFine names (coded_of r)) (λ r. tt) (λ v. tt) names (λ start length h. h) (λ v start length h. h)
     (λ choice v w. count-fine choice v) tt row
 
 -- where it is one with a name or a count
 module _ (names : ℕ) (x : Coded) (fine : CodedFine names x) where
-  pub label-named : (start length : ℕ) → x ≡ Label start length → start + length ≤ names
+  pub label-named : (start length : ℕ) → x ≡ Ok (Label start length) → start + length ≤ names
   label-named start length e = rw e at fine
 
-  pub jump-named : (condition : Condition) (start length : ℕ) → x ≡ Jump condition start length → start + length ≤ names
+  pub jump-named : (condition : Condition) (start length : ℕ) → x ≡ Ok (Jump condition start length) → start + length ≤ names
   jump-named condition start length e = rw e at fine
 
-  pub begin_counted : (count : LoopCount) (mode : LoopMode) → x ≡ LoopBegin count mode → CountFine count
+  pub begin_counted : (count : LoopCount) (mode : LoopMode) → x ≡ Ok (LoopBegin count mode) → CountFine count
   begin_counted count mode e = rw e at fine

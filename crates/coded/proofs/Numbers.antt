@@ -7,8 +7,11 @@ use lib.Dec.{eqb}
 use Rattle.fields.specs.Pack.{Field}
 use Rattle.registers.specs.declared.Register.{Register}
 use Rattle.refusals.specs.declared.Refusal.TheVariants.{MultifunctionOperand, DuplicateDestination}
-use Rattle.refusals.specs.declared.Verdict.{Verdict}
-use Rattle.refusals.specs.declared.Verdict.TheVariants as verdict
+use Rattle.std.specs.Prelude.{Ok, Err, Result, Option}
+use Rattle.refusals.specs.Answers.{Verdict}
+use Rattle.refusals.specs.declared.Refusal.{Refusal}
+use Rattle.items.specs.declared.Item.{Item}
+use Rattle.items.specs.declared.VisaInstruction.{VisaInstruction}
 use Rattle.refusals.specs.Calls.{reading, encoding}
 use Rattle.refusals.specs.Order.{first}
 use Rattle.refusals.proofs.Within.{Tells, AllTell, tells-when, tells_first}
@@ -17,37 +20,30 @@ use Rattle.items.specs.declared.DataAccess.{DataAccess}
 use Rattle.items.specs.declared.FloatMulAlu.{FloatMulAlu}
 use Rattle.items.specs.declared.MemoryAccess.{MemoryAccess}
 use Rattle.items.specs.declared.Item.TheVariants as item
-use Rattle.computes.specs.declared.Made.{Made}
-use Rattle.computes.specs.declared.Made.TheVariants as made
 use Rattle.computes.specs.Compute.{made_single, outside, multi_refusals, made_by, made_multi}
 use Rattle.encode.specs.Encoding.{verdict_of}
 use Rattle.encode.proofs.Numbers.{instruction-tells}
 use Rattle.bounds.specs.Tables.{at}
 use Rattle.bounds.specs.Bounds.{is_compute}
-use Rattle.bounds.specs.Checks.{check_of, places_of, decided, inside}
-use Rattle.bounds.specs.declared.Places.{Places}
-use Rattle.bounds.specs.declared.Places.TheVariants.{Fine, Bad, Code}
-use Rattle.rows.specs.declared.Beside.{Beside}
-use Rattle.rows.specs.declared.Beside.TheVariants as side
-use Rattle.rows.specs.declared.Read.{Read}
-use Rattle.rows.specs.declared.Read.TheVariants as read
+use Rattle.bounds.specs.declared.Misfit.TheVariants.{Bad, Code}
+use Rattle.bounds.specs.Checks.{Places, check_of, places_of, decided, inside}
 use Rattle.rows.specs.Rows.{multi_of, compute_of, beside, beside_of, dm_of, pm_of, access_of, compute_item, dual_item, memory_item, item_of, after, read_of}
 use Rattle.coded.specs.Coded.{coded_of, read_verdict, encodes}
 
 decided-tells : (t : Bool) (places : Places) → Tells reading (decided t places)
 decided-tells false places = refl
-decided-tells true Fine = refl
-decided-tells true Bad = refl
-decided-tells true (Code v) = refl
+decided-tells true (Ok _) = refl
+decided-tells true (Err Bad) = refl
+decided-tells true (Err (Code v)) = refl
 
 -- ---- the compute
-abbrev MadeTells : Made → Type 0
-MadeTells (made.Made compute) = Unit {0}
-MadeTells (made.Refused refusal) = Tells reading (verdict.Refused refusal)
+abbrev MadeTells : Result Compute Refusal → Type 0
+MadeTells (Ok compute) = Unit {0}
+MadeTells (Err refusal) = Tells reading (Err refusal)
 
 by_tells : (v : Verdict) (compute : Compute) → Tells reading v → MadeTells (made_by v compute)
-by_tells verdict.Good compute h = tt
-by_tells (verdict.Refused refusal) compute h = h
+by_tells (Ok _) compute h = tt
+by_tells (Err refusal) compute h = h
 
 single-tells : (fields : List Field) (destination : ℕ) → MadeTells (made_single fields destination)
 unfolding made_single
@@ -86,34 +82,34 @@ compute-tells row =
     either MadeTells (eqb (at row 1) 1) _ _ (either MadeTells (is_compute (at row 2)) _ _ (single-tells _ _) refl)
     (either MadeTells (eqb (at row 1) 2) _ _ multi multi)
 
-abbrev BesideTells : Beside → Type 0
-BesideTells (side.Compute compute) = Unit {0}
-BesideTells (side.Refused refusal) = Tells reading (verdict.Refused refusal)
+abbrev BesideTells : Result (Option Compute) Refusal → Type 0
+BesideTells (Ok compute) = Unit {0}
+BesideTells (Err refusal) = Tells reading (Err refusal)
 
-made-beside : (m : Made) → MadeTells m → BesideTells (beside m)
-made-beside (made.Made compute) h = tt
-made-beside (made.Refused refusal) h = h
+made-beside : (m : Result Compute Refusal) → MadeTells m → BesideTells (beside m)
+made-beside (Ok compute) h = tt
+made-beside (Err refusal) h = h
 
 beside-tells : (row : List ℕ) → BesideTells (beside_of row)
 unfolding beside_of
 beside-tells row = either BesideTells (eqb (at row 1) 0) _ _ tt (made-beside (compute_of row) (compute-tells row))
 
 -- ---- the row
-abbrev ReadTells : Read → Type 0
-ReadTells (read.Item x) = Unit {0}
-ReadTells (read.Refused refusal) = Tells reading (verdict.Refused refusal)
+abbrev ReadTells : Result (Item VisaInstruction) Refusal → Type 0
+ReadTells (Ok x) = Unit {0}
+ReadTells (Err refusal) = Tells reading (Err refusal)
 
-compute-read : (m : Made) → MadeTells m → ReadTells (compute_item m)
-compute-read (made.Made compute) h = tt
-compute-read (made.Refused refusal) h = h
+compute-read : (m : Result Compute Refusal) → MadeTells m → ReadTells (compute_item m)
+compute-read (Ok compute) h = tt
+compute-read (Err refusal) h = h
 
-dual_read : (dm pm : DataAccess) (b : Beside) → BesideTells b → ReadTells (dual_item dm pm b)
-dual_read dm pm (side.Compute compute) h = tt
-dual_read dm pm (side.Refused refusal) h = h
+dual_read : (dm pm : DataAccess) (b : Result (Option Compute) Refusal) → BesideTells b → ReadTells (dual_item dm pm b)
+dual_read dm pm (Ok compute) h = tt
+dual_read dm pm (Err refusal) h = h
 
-memory-read : (access : MemoryAccess) (b : Beside) → BesideTells b → ReadTells (memory_item access b)
-memory-read access (side.Compute compute) h = tt
-memory-read access (side.Refused refusal) h = h
+memory-read : (access : MemoryAccess) (b : Result (Option Compute) Refusal) → BesideTells b → ReadTells (memory_item access b)
+memory-read access (Ok compute) h = tt
+memory-read access (Err refusal) h = h
 
 item-tells : (row : List ℕ) → ReadTells (item_of row)
 unfolding item_of
@@ -125,9 +121,9 @@ item-tells row =
     (either ReadTells (eqb kind 48) _ _ tt
     (either ReadTells (eqb kind 49) _ _ tt (either ReadTells (eqb kind 50) _ _ tt (either ReadTells (eqb kind 51) _ _ tt tt))))))
 
-after-tells : (v : Verdict) (r : Read) → Tells reading v → ReadTells r → ReadTells (after v r)
-after-tells verdict.Good r h k = k
-after-tells (verdict.Refused refusal) r h k = h
+after-tells : (v : Verdict) (r : Result (Item VisaInstruction) Refusal) → Tells reading v → ReadTells r → ReadTells (after v r)
+after-tells (Ok _) r h k = k
+after-tells (Err refusal) r h k = h
 
 read-tells : (row : List ℕ) (names : ℕ) → ReadTells (read_of row names)
 unfolding read_of check_of
@@ -135,26 +131,26 @@ read-tells row names =
     let named = inside (at row 0) (at row 1) (at row 2) (at row 3) names in
     after-tells (decided named (places_of row)) (item_of row) (decided-tells named (places_of row)) (item-tells row)
 
-coded-read : (r : Read) → ReadTells r → Tells reading (read_verdict (coded_of r))
-coded-read (read.Item (item.Instruction v)) h = refl
-coded-read (read.Item (item.Label start length)) h = refl
-coded-read (read.Item (item.Jump condition start length)) h = refl
-coded-read (read.Item (item.LoopBegin count mode)) h = refl
-coded-read (read.Item item.LoopEnd) h = refl
-coded-read (read.Refused refusal) h = h
+coded-read : (r : Result (Item VisaInstruction) Refusal) → ReadTells r → Tells reading (read_verdict (coded_of r))
+coded-read (Ok (item.Instruction v)) h = refl
+coded-read (Ok (item.Label start length)) h = refl
+coded-read (Ok (item.Jump condition start length)) h = refl
+coded-read (Ok (item.LoopBegin count mode)) h = refl
+coded-read (Ok item.LoopEnd) h = refl
+coded-read (Err refusal) h = h
 
 -- THE THEOREM: what a row is refused for
 pub row-tells : (row : List ℕ) (names : ℕ) → Tells reading (read_verdict (coded_of (read_of row names)))
 row-tells row names = coded-read (read_of row names) (read-tells row names)
 
-coded-encodes : (r : Read) → Tells encoding (encodes (coded_of r))
+coded-encodes : (r : Result (Item VisaInstruction) Refusal) → Tells encoding (encodes (coded_of r))
 unfolding verdict_of
-coded-encodes (read.Item (item.Instruction v)) = instruction-tells v
-coded-encodes (read.Item (item.Label start length)) = refl
-coded-encodes (read.Item (item.Jump condition start length)) = refl
-coded-encodes (read.Item (item.LoopBegin count mode)) = refl
-coded-encodes (read.Item item.LoopEnd) = refl
-coded-encodes (read.Refused refusal) = refl
+coded-encodes (Ok (item.Instruction v)) = instruction-tells v
+coded-encodes (Ok (item.Label start length)) = refl
+coded-encodes (Ok (item.Jump condition start length)) = refl
+coded-encodes (Ok (item.LoopBegin count mode)) = refl
+coded-encodes (Ok item.LoopEnd) = refl
+coded-encodes (Err refusal) = refl
 
 -- and for what its instruction does not encode
 pub encodes-tells : (row : List ℕ) (names : ℕ) → Tells encoding (encodes (coded_of (read_of row names)))

@@ -6,36 +6,19 @@ ghost use Rattle.rows.specs.Rows.{row_width, most_rows, read_of};
 ghost use Rattle.coded.specs.Coded.{coding_of, item_coded, coded_of};
 
 use encode::Form;
-use items::{Condition, Item, Kind, LoopCount, LoopMode, VisaInstruction};
+use items::{Item, Kind, VisaInstruction};
 use refusals::Refusal;
-use rows::{ROW_WIDTH, Read};
+use rows::ROW_WIDTH;
 
-// An instruction as its form, and its kind.
+// An instruction as its form, or why it does not encode, and its kind.
 #[derive(Clone, Copy)]
 pub struct Coding {
-    pub form: Form,
+    pub form: Result<Form, Refusal>,
     pub kind: Kind,
 }
 
-#[derive(Clone, Copy)]
-pub enum Coded {
-    Instruction(Coding),
-    Label {
-        start: u32,
-        length: u32,
-    },
-    Jump {
-        condition: Condition,
-        start: u32,
-        length: u32,
-    },
-    LoopBegin {
-        count: LoopCount,
-        mode: LoopMode,
-    },
-    LoopEnd,
-    Refused(Refusal),
-}
+// An item whose instruction is its form already, or the refusal.
+pub type Coded = Result<Item<Coding>, Refusal>;
 
 // An instruction's form and kind.
 fn coding_of(v: VisaInstruction) -> Coding
@@ -48,23 +31,23 @@ fn coding_of(v: VisaInstruction) -> Coding
 }
 
 // What an item comes to.
-fn item_coded(it: Item) -> Coded
+fn item_coded(it: Item<VisaInstruction>) -> Item<Coding>
     ensures { result ≡ item_coded it }
 {
     match it {
-        Item::Instruction(v) => Coded::Instruction(coding_of(v)),
-        Item::Label { start, length } => Coded::Label { start, length },
+        Item::Instruction(v) => Item::Instruction(coding_of(v)),
+        Item::Label { start, length } => Item::Label { start, length },
         Item::Jump {
             condition,
             start,
             length,
-        } => Coded::Jump {
+        } => Item::Jump {
             condition,
             start,
             length,
         },
-        Item::LoopBegin { count, mode } => Coded::LoopBegin { count, mode },
-        Item::LoopEnd => Coded::LoopEnd,
+        Item::LoopBegin { count, mode } => Item::LoopBegin { count, mode },
+        Item::LoopEnd => Item::LoopEnd,
     }
 }
 
@@ -73,10 +56,7 @@ pub fn coded_row(row: &[u32], names: usize) -> Coded
     requires { length row.now ≡ row_width }
     ensures { result ≡ coded_of (read_of row.now names) }
 {
-    match rows::read_row(row, names) {
-        Read::Item(it) => item_coded(it),
-        Read::Refused(refusal) => Coded::Refused(refusal),
-    }
+    Ok(item_coded(rows::read_row(row, names)?))
 }
 
 // What row i of a slice of rows comes to.

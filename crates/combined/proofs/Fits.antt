@@ -1,12 +1,13 @@
 -- Where a sum of tests is 0, each test is passed.
-use Prim.Native.Nat.{ℕ, ◌+◌, ◌/◌, ◌≤◌, ◌<◌}
+use Prim.Native.Nat.{ℕ, ◌+◌, ◌/◌, ◌≤◌}
 use native.Mathlib.Omega.{arith}
 use mathlib.Core.Path.{◌≡◌, refl, sym, subst}
 use mathlib.Core.Bool.{Bool, true, false, cond, not}
 use lib.Dec.{eqb, ltb}
+use Rattle.std.specs.Prelude.{Option, Some, None}
+use Rattle.std.proofs.lemmas.Option.{none-some}
 use borrow.Author.Tests.{ltb-false, eqb-true, eqb-false, not-false}
 use Rattle.words.specs.Forms.{bit_of}
-use Rattle.combined.specs.Single.{third_of}
 use Rattle.combined.specs.Tests.{over, unlike, four, single_faults, input_faults, output_faults, dm_faults, pm_faults, dual_fits, access_faults, memory_fits}
 
 pub bit_false : (t : Bool) → bit_of t ≡ 0 → t ≡ false
@@ -19,10 +20,10 @@ under most v e = ltb-false most v (bit_false (ltb most v) e)
 pub alike : (v w : ℕ) → unlike v w ≡ 0 → v ≡ w
 alike v w e = eqb-true v w (not-false (eqb v w) (bit_false (not (eqb v w)) e))
 
--- a word that is not 0 has passed its test
-pub passed : (t : Bool) (word : ℕ) → 0 < cond t word 0 → (t ≡ true) × (cond t word 0 ≡ word)
-passed true word h = (refl, refl)
-passed false word h = absurd (omega arith)
+-- where there is a word, its test is passed
+pub passed : (t : Bool) (o : Option ℕ) {word : ℕ} → cond t o None ≡ Some word → (t ≡ true) × (o ≡ Some word)
+passed true o h = (refl, h)
+passed false o h = absurd (none-some _ h)
 
 -- of an enumeration of two
 pub zero_or_one : (P : ℕ → Type 0) → P 0 → P 1 → (v : ℕ) → v ≤ 1 → P v
@@ -32,16 +33,14 @@ zero_or_one P p q v h = go (eqb v 0) refl
     go true e = subst P (sym (eqb-true v 0 e)) p
     go false e = let o : v ≡ 1 = omega (arith, h, eqb-false v 0 e) in subst P (sym o) q
 
-pub record SingleFit (kind a b c d e f : ℕ) : Type 0 where
-  pub known : third_of kind ≤ 15
-  pub places : (a ≤ 15) × (b ≤ 15) × (c ≤ third_of kind)
+pub record SingleFit (most a b c d e f : ℕ) : Type 0 where
+  pub places : (a ≤ 15) × (b ≤ 15) × (c ≤ most)
   pub spare : (d ≡ 0) × (e ≡ 0) × (f ≡ 0)
 
-pub single-fit : (kind a b c d e f : ℕ) → single_faults kind a b c d e f ≡ 0 → SingleFit kind a b c d e f
-single-fit kind a b c d e f s =
+pub single-fit : (most a b c d e f : ℕ) → single_faults most a b c d e f ≡ 0 → SingleFit most a b c d e f
+single-fit most a b c d e f s =
     record {
-      known = under 15 (third_of kind) (omega (arith, s));
-      places = (under 15 a (omega (arith, s)), under 15 b (omega (arith, s)), under (third_of kind) c (omega (arith, s)));
+      places = (under 15 a (omega (arith, s)), under 15 b (omega (arith, s)), under most c (omega (arith, s)));
       spare = (omega (arith, s), omega (arith, s), omega (arith, s));
     }
 

@@ -1,42 +1,45 @@
 -- The compute beside a move, or none: its places lie below their bounds, and what it writes is what the row's places say.
 use Prim.Native.Nat.{ℕ, ◌+◌, ◌%◌, ◌^◌, ◌≤◌, ◌<◌}
 use native.Mathlib.Omega.{arith}
-use mathlib.Core.Path.{◌≡◌, refl, sym}
-use mathlib.Core.Bool.{Bool, true, false, not, ◌&&◌, ◌||◌}
+use mathlib.Core.Path.{◌≡◌, refl, sym, subst}
+use Rattle.std.specs.Prelude.{Option, Some, None, option_map}
+use Rattle.std.specs.Option.{option_or}
+use Rattle.std.specs.Bool.{then_some}
+use Rattle.std.proofs.lemmas.Option.{none-some, same_Some}
+use mathlib.Core.Bool.{Bool, true, false, not, ◌&&◌}
 use mathlib.Core.List.{List, [], ◌∷◌}
-use lib.Dec.{eqb, ltb}
-use borrow.Author.Tests.{ltb-true, ltb-false, eqb-true, eq-eqb, ne_eqb}
+use lib.Dec.{eqb}
+use borrow.Author.Tests.{eqb-true, eq-eqb, ne_eqb}
 use Rattle.words.specs.Forms.{is_store}
-use Rattle.items.specs.declared.OptionalCompute.{OptionalCompute}
-use Rattle.items.specs.declared.OptionalCompute.TheVariants.{Nothing, Held}
+use Rattle.std.specs.Prelude.{Ok, Some, None, Option}
+use Rattle.items.specs.declared.Compute.{Compute}
 use Rattle.encode.specs.Registers.{writes}
 use Rattle.encode.specs.Layouts.{field_of}
 use Rattle.bounds.specs.Tables.{at}
 use Rattle.bounds.specs.Bounds.{form, compute}
-use Rattle.rows.specs.declared.Beside.TheVariants as beside
 use Rattle.rows.specs.Fields.{direction_of}
 use Rattle.rows.specs.Kept.{Below}
 use Rattle.rows.specs.Rows.{beside_of}
-use Rattle.combined.specs.Tests.{four, word_of, none_of, computes, written, clash_of}
+use Rattle.combined.specs.Tests.{four, word_of, none_of, bits_beside, written, clash_of}
 use Rattle.combined.proofs.Fits.{zero_or_one}
 use Rattle.combined.proofs.Fine.{eight, word-fine, low_bits}
 
 pub record Beside (row : List ℕ) (field : ℕ) : Type 0 where
-  pub held : OptionalCompute
+  pub held : Option Compute
   pub below : Below (compute form row) (eight row 1)
-  pub makes : beside_of row ≡ beside.Compute held
+  pub makes : beside_of row ≡ Ok held
   pub bits : field_of held ≡ field
   pub clear : (n : ℕ) → n < 16 → written row n ≡ false → writes held n ≡ false
 
-some : (row : List ℕ) → 0 < word_of row → Beside row (word_of row % 2 ^ 32)
+some : (row : List ℕ) (w : ℕ) → word_of row ≡ Some w → Beside row (w % 2 ^ 32)
 unfolding beside_of writes
-some row h =
+some row w h =
     let f = word-fine row h in
     record {
-      held = Held f.held;
+      held = Some f.held;
       below = f.below form;
       makes = rw (ne_eqb _ _ f.some, f.makes);
-      bits = sym (low_bits row (word_of row) f);
+      bits = sym (low_bits row w f);
       clear = f.clear;
     }
 
@@ -44,25 +47,30 @@ none-bounds : (row : List ℕ) → at row 1 ≡ 0 → compute form row ≡ 3 ∷
 unfolding compute
 none-bounds row e = rw e
 
-none : (row : List ℕ) → word_of row ≡ 0 → none_of row ≡ true → Beside row (word_of row % 2 ^ 32)
+none : (row : List ℕ) → none_of row ≡ true → Beside row 0
 unfolding beside_of writes none_of
-none row z t =
+none row t =
     let s : four (at row 1) (at row 2) (at row 3) (at row 4) + four (at row 5) (at row 6) (at row 7) (at row 8) ≡ 0 = eqb-true _ 0 t in
     let e : at row 1 ≡ 0 = omega (arith, s) in
     record {
-      held = Nothing;
+      held = None;
       below = rw (none-bounds row e) (omega (arith, s), (omega (arith, s), (omega (arith, s), (omega (arith, s), (omega (arith, s), (omega (arith, s), (omega (arith, s), (omega (arith, s), tt))))))));
       makes = rw (eq-eqb _ _ e);
-      bits = rw z;
+      bits = refl;
       clear = λ n l c. refl;
     }
 
-pub held : (row : List ℕ) → computes (word_of row) row ≡ true → Beside row (word_of row % 2 ^ 32)
-held row h = go (ltb 0 (word_of row)) refl h
+pub held : (row : List ℕ) {field : ℕ} → bits_beside row ≡ Some field → Beside row field
+unfolding bits_beside
+held row {field} h = go (word_of row) refl h
   where
-    go : (t : Bool) → ltb 0 (word_of row) ≡ t → (t || none_of row) ≡ true → Beside row (word_of row % 2 ^ 32)
-    go true e h = some row (ltb-true 0 (word_of row) e)
-    go false e h = let l = ltb-false 0 (word_of row) e in none row (omega (arith, l)) h
+    none-held : (t : Bool) → none_of row ≡ t → then_some t 0 ≡ Some field → Beside row field
+    none-held true e h = subst (λ (n : ℕ). Beside row n) (same_Some _ _ h) (none row e)
+    none-held false e h = absurd (none-some _ h)
+
+    go : (o : Option ℕ) → word_of row ≡ o → option_or (option_map (λ word. word % 2 ^ 32) o) (then_some (none_of row) 0) ≡ Some field → Beside row field
+    go (Some w) e h = subst (λ (n : ℕ). Beside row n) (same_Some _ _ h) (some row w e)
+    go None e h = none-held (none_of row) refl h
 
 -- a direction that loads, and one that stores
 pub loading : (d : ℕ) → d ≤ 1 → not (is_store (direction_of d)) ≡ eqb d 0

@@ -1,12 +1,13 @@
 -- What the glances at kinds 32, 33 and 34 say is right.
-use Prim.Native.Nat.{ℕ, ◌+◌, ◌/◌, ◌%◌, ◌^◌, ◌≤◌}
+use Prim.Native.Nat.{ℕ, ◌+◌, ◌/◌, ◌%◌, ◌≤◌}
 use native.Mathlib.Omega.{arith}
 use mathlib.Core.Path.{◌≡◌, refl, sym, ap, ◌∙◌}
 use mathlib.Core.Bool.{Bool, true, false, not, ◌&&◌, ◌||◌, beq}
 use mathlib.Core.List.{List}
+use Rattle.std.specs.Prelude.{Some, Ok}
 use lib.Dec.{eqb, ltb, leb}
 use lib.ListN.{length}
-use borrow.Author.Tests.{eqb-true, eqb-false, eq-eqb, le-leb, lt-leb, leb-true, leb-false, ltb-true}
+use borrow.Author.Tests.{eqb-true, eq-eqb, le-leb, lt-leb, leb-true, leb-false, ltb-true}
 use Rattle.fields.specs.Pack.{pack}
 use Rattle.words.specs.Forms.{bit_of, is_post, type2a, whole, dual1a, memory3a}
 use Rattle.refusals.proofs.Order.{AllGood, good-when}
@@ -22,29 +23,28 @@ use Rattle.bounds.specs.Bounds.{never}
 use Rattle.rows.specs.Fields.{update_of}
 use Rattle.rows.specs.Rows.{item_of, data_access_of, memory_access_of, dm_of, pm_of, access_of}
 use Rattle.combined.specs.Right.{Plain}
-use Rattle.combined.specs.Tests.{four, unlike, word_of, computes, clash_of, dual_fits, memory_fits, own_dag}
+use Rattle.combined.specs.Tests.{four, unlike, word_of, bits_beside, clash_of, dual_fits, memory_fits, own_dag}
 use Rattle.combined.proofs.Single.{word_2a}
-use Rattle.combined.proofs.Fits.{bit_false, zero_or_one, DualFit, dual_fit, MemoryFit, memory-fit}
+use Rattle.combined.proofs.Fits.{zero_or_one, DualFit, dual_fit, MemoryFit, memory-fit}
 use Rattle.combined.proofs.Fine.{kept, word-fine}
 use Rattle.combined.proofs.Places.{alone-reads, dual_reads, memory-reads}
 use Rattle.combined.proofs.Held.{Beside, held, loading, storing, apart}
 
 -- ---- a compute alone
 pub alone_right :
-    (row : List ℕ) → length row ≡ 17 → at row 0 ≡ 32 →
-    four (at row 9) (at row 10) (at row 11) (at row 12) + four (at row 13) (at row 14) (at row 15) (at row 16) + bit_of (eqb (word_of row) 0) ≡ 0 →
-    Plain row (form.Word (word_of row))
+    (row : List ℕ) {w : ℕ} → length row ≡ 17 → at row 0 ≡ 32 → word_of row ≡ Some w →
+    four (at row 9) (at row 10) (at row 11) (at row 12) + four (at row 13) (at row 14) (at row 15) (at row 16) ≡ 0 →
+    Plain row (Ok (form.Word w))
 unfolding item_of form_of layout_of
-alone_right row n e s =
-    let some = eqb-false (word_of row) 0 (bit_false (eqb (word_of row) 0) (omega (arith, s))) in
-    let f = word-fine row (omega (arith, some)) in
-    let w : pack (type2a (whole f.held.field)) ≡ word_of row = word_2a (whole f.held.field) ∙ omega (arith, f.word) in
+alone_right row {w} n e found s =
+    let f = word-fine row found in
+    let p : pack (type2a (whole f.held.field)) ≡ w = word_2a (whole f.held.field) ∙ omega (arith, f.word) in
     record {
       seen =
           record {
             instruction = visa.Compute f.held;
             reads = λ names. alone-reads row n e (f.below never) (omega (arith, s), (omega (arith, s), (omega (arith, s), (omega (arith, s), (omega (arith, s), (omega (arith, s), (omega (arith, s), (omega (arith, s), tt)))))))) names ∙ rw (e, f.makes);
-            encodes = ap form.Word w;
+            encodes = ap (λ (v : ℕ). Ok (form.Word v)) p;
           };
       stays = refl;
     }
@@ -105,18 +105,18 @@ module _ {row : List ℕ} {field : ℕ} (k : Beside row field) where
         ),
       )
 
-abbrev pub dual_word : List ℕ → ℕ
-dual_word row =
+abbrev pub dual_word : List ℕ → ℕ → ℕ
+dual_word row field =
     pack (dual1a (bit_of (eqb (at row 9) 1)) (at row 11 % 256) (at row 12 % 256) (bit_of (eqb (at row 13) 1)) (at row 10 % 256)
-    (at row 15 % 256 % 8) (at row 16 % 256 % 8) (at row 14 % 256) (whole (word_of row % 2 ^ 32)))
+    (at row 15 % 256 % 8) (at row 16 % 256 % 8) (at row 14 % 256) (whole field))
 
 pub dual_right :
-    (row : List ℕ) → length row ≡ 17 → at row 0 ≡ 33 →
+    (row : List ℕ) {field : ℕ} → length row ≡ 17 → at row 0 ≡ 33 →
     dual_fits (at row 9) (at row 10) (at row 11) (at row 12) (at row 13) (at row 14) (at row 15) (at row 16) ≡ true →
-    clash_of row (at row 9) (at row 10) ≡ false → clash_of row (at row 13) (at row 14) ≡ false → computes (word_of row) row ≡ true →
-    Plain row (form.Word (dual_word row))
+    clash_of row (at row 9) (at row 10) ≡ false → clash_of row (at row 13) (at row 14) ≡ false → bits_beside row ≡ Some field →
+    Plain row (Ok (form.Word (dual_word row field)))
 unfolding item_of form_of layout_of data_access_of
-dual_right row n e t c d w =
+dual_right row {field} n e t c d w =
     let h = dual_fit (at row 9) (at row 10) (at row 11) (at row 12) (at row 13) (at row 14) (at row 15) (at row 16) t in
     let p = h.dm in
     let q = h.pm in
@@ -190,18 +190,18 @@ module _ {row : List ℕ} {field : ℕ} (k : Beside row field) (h : Memory row) 
         ),
       )
 
-abbrev pub memory_word : List ℕ → ℕ
-memory_word row =
+abbrev pub memory_word : List ℕ → ℕ → ℕ
+memory_word row field =
     pack (memory3a (bit_of (eqb (at row 13) 0)) (at row 11 % 256 % 8) (at row 12 % 256 % 8) (bit_of (leb 8 (at row 11))) (bit_of (eqb (at row 9) 1))
-    (at row 10 % 256) (whole (word_of row % 2 ^ 32)))
+    (at row 10 % 256) (whole field))
 
 pub memory_right :
-    (row : List ℕ) → length row ≡ 17 → at row 0 ≡ 34 →
+    (row : List ℕ) {field : ℕ} → length row ≡ 17 → at row 0 ≡ 34 →
     memory_fits (at row 9) (at row 10) (at row 11) (at row 12) (at row 13) (at row 14) (at row 15) (at row 16) ≡ true →
-    own_dag (at row 9) (at row 10) (at row 11) (at row 13) ≡ false → clash_of row (at row 9) (at row 10) ≡ false → computes (word_of row) row ≡ true →
-    Plain row (form.Word (memory_word row))
+    own_dag (at row 9) (at row 10) (at row 11) (at row 13) ≡ false → clash_of row (at row 9) (at row 10) ≡ false → bits_beside row ≡ Some field →
+    Plain row (Ok (form.Word (memory_word row field)))
 unfolding item_of form_of layout_of memory_access_of
-memory_right row n e t c d w =
+memory_right row {field} n e t c d w =
     let h = memory-fit (at row 9) (at row 10) (at row 11) (at row 12) (at row 13) (at row 14) (at row 15) (at row 16) t in
     let p = h.access in
     let s = h.spare in

@@ -1,5 +1,7 @@
 -- Instruments of the short way: the tests of a row that holds a compute, added up, and the word of its compute.
-use Rattle.std.specs.Prelude.{ℕ, ◌+◌, ◌*◌, ◌/◌, ◌%◌, ◌^◌, Bool, not, cond, ◌&&◌, ◌||◌, List, [], ◌∷◌, eqb, ltb, leb}
+use Rattle.std.specs.Prelude.{ℕ, ◌+◌, ◌*◌, ◌/◌, ◌%◌, ◌^◌, Bool, false, not, cond, ◌&&◌, ◌||◌, List, [], ◌∷◌, eqb, ltb, leb, Option, Some, None, option_map, option_and_then}
+use Rattle.std.specs.Option.{option_or}
+use Rattle.std.specs.Bool.{then_some}
 use Rattle.fields.specs.Pack.{pack}
 use Rattle.words.specs.Forms.{bit_of}
 use Rattle.computes.specs.Compute.{multi}
@@ -17,12 +19,13 @@ unlike v w = bit_of (not (eqb v w))
 abbrev pub four : ℕ → ℕ → ℕ → ℕ → ℕ
 four a b c d = a + b + c + d
 
--- the seven places of a single compute after its form, and its word: 0 where they are not fine
+-- the places of a single compute after its kind, whose third field holds that at most; and its word where they are fine
 abbrev pub single_faults : ℕ → ℕ → ℕ → ℕ → ℕ → ℕ → ℕ → ℕ
-single_faults kind a b c d e f = over 15 (third_of kind) + over 15 a + over 15 b + over (third_of kind) c + four d e f 0
+single_faults most a b c d e f = over 15 a + over 15 b + over most c + four d e f 0
 
-unfoldable pub single_of : ℕ → ℕ → ℕ → ℕ → ℕ → ℕ → ℕ → ℕ
-single_of kind a b c d e f = cond (eqb (single_faults kind a b c d e f) 0) (single_word kind a b c) 0
+unfoldable pub single_of : ℕ → ℕ → ℕ → ℕ → ℕ → ℕ → ℕ → Option ℕ
+single_of kind a b c d e f =
+    option_and_then (λ most. cond (eqb (single_faults most a b c d e f) 0) (single_word kind a b c) None) (third_of kind)
 
 -- those of a multifunction
 abbrev pub input_faults : ℕ → ℕ → ℕ → ℕ → ℕ
@@ -35,37 +38,31 @@ abbrev pub multi_field : ℕ → ℕ → ℕ → ℕ → ℕ → ℕ → ℕ →
 multi_field p mx my op d ax ay =
     pack (multi (0x18 + op % 256 % 2) (p % 256) (d % 256) (mx % 256 % 4) (my % 256 % 4) (ax % 256 % 4) (ay % 256 % 4))
 
-unfoldable pub multi_of : ℕ → ℕ → ℕ → ℕ → ℕ → ℕ → ℕ → ℕ
-multi_of p mx my op d ax ay = cond (eqb (input_faults mx my ax ay + output_faults p op d) 0) (0x13e * 2 ^ 32 + multi_field p mx my op d ax ay) 0
+unfoldable pub multi_of : ℕ → ℕ → ℕ → ℕ → ℕ → ℕ → ℕ → Option ℕ
+multi_of p mx my op d ax ay =
+    cond (eqb (input_faults mx my ax ay + output_faults p op d) 0) (Some (0x13e * 2 ^ 32 + multi_field p mx my op d ax ay)) None
 
--- the word of a row's compute: 0 where its places are not fine, and where there is none
-unfoldable pub word_of : List ℕ → ℕ
+-- the word of a row's compute: nothing where its places are not fine, and where there is none
+unfoldable pub word_of : List ℕ → Option ℕ
 word_of row =
     lookup (at row 1)
     ((1, single_of (at row 2) (at row 3) (at row 4) (at row 5) (at row 6) (at row 7) (at row 8)) ∷
     (2, multi_of (at row 2) (at row 3) (at row 4) (at row 5) (at row 6) (at row 7) (at row 8)) ∷ [])
-    0
+    None
 
 -- the eight places say that there is none
 unfoldable pub none_of : List ℕ → Bool
 none_of row = eqb (four (at row 1) (at row 2) (at row 3) (at row 4) + four (at row 5) (at row 6) (at row 7) (at row 8)) 0
 
--- no compute, or one that is fine
-abbrev pub computes : ℕ → List ℕ → Bool
-computes word row = ltb 0 word || none_of row
+-- beside a move: the low bits of the word of a compute that is fine, and 0 where there is none
+unfoldable pub bits_beside : List ℕ → Option ℕ
+bits_beside row = option_or (option_map (λ word. word % 2 ^ 32) (word_of row)) (then_some (none_of row) 0)
 
--- the destinations: 0x60, which is no register's code, where there is none
-abbrev pub nowhere : ℕ
-nowhere = 0x60
-
-unfoldable pub first_of : ℕ → ℕ → ℕ → ℕ
-first_of form a b = lookup form ((0, nowhere) ∷ (2, a) ∷ []) (cond (eqb a 27) nowhere b)
-
-unfoldable pub second_of : ℕ → ℕ → ℕ
-second_of form d = cond (eqb form 2) d nowhere
-
-abbrev pub written : List ℕ → ℕ → Bool
-written row register = eqb (first_of (at row 1) (at row 2) (at row 3)) register || eqb (second_of (at row 1) (at row 6)) register
+-- the destinations: a multifunction has two, a comparison none
+unfoldable pub written : List ℕ → ℕ → Bool
+written row register =
+    lookup (at row 1) ((0, false) ∷ (2, eqb (at row 2) register || eqb (at row 6) register) ∷ [])
+    (not (eqb (at row 2) 27) && eqb (at row 3) register)
 
 -- a load of a register that the compute writes
 unfoldable pub clash_of : List ℕ → ℕ → ℕ → Bool

@@ -5,14 +5,13 @@ use mathlib.Core.Path.{◌≡◌}
 use Rattle.fields.specs.Pack.{pack, Fits}
 use Rattle.fields.specs.Faithful.{Faithful}
 use Rattle.fields.proofs.Packed.{faithful}
-use Rattle.refusals.specs.declared.Verdict.{Verdict}
-use Rattle.refusals.specs.declared.Verdict.TheVariants.{Good, Refused}
+use Rattle.std.specs.Prelude.{Ok, Err}
+use Rattle.refusals.specs.Answers.{Verdict}
 use Rattle.refusals.specs.Order.{first}
 use Rattle.items.specs.declared.AluOp.{AluOp}
 use Rattle.items.specs.declared.AluOp.TheVariants.{Add, Sub}
 use Rattle.items.specs.declared.Compute.{Compute}
 use Rattle.items.specs.declared.FloatMulAlu.{FloatMulAlu}
-use Rattle.computes.specs.declared.Made.TheVariants as M
 use Rattle.computes.specs.Compute.{opcode_of, multi, multi_fields, multi_refusals, made_by, made_multi}
 use Rattle.computes.proofs.Ranged.{RangedMulti}
 
@@ -20,12 +19,12 @@ multi-fits : (op : AluOp) (p d a b c e : ℕ) → Fits (multi 0x18 p d a b c e) 
 multi-fits Add p d a b c e f = f
 multi-fits Sub p d a b c e f = omega (arith, f)
 
-made : (v : Verdict) (x k : Compute) → made_by v x ≡ M.Made k → k.field ≡ x.field
-made Good x k e = cc
-made (Refused r) x k e = cc
+made : (v : Verdict) (x k : Compute) → made_by v x ≡ Ok k → k.field ≡ x.field
+made (Ok _) x k e = cc
+made (Err r) x k e = cc
 
 -- THE THEOREM
-pub multi-faithful : (f : FloatMulAlu) (k : Compute) → RangedMulti f → made_multi f ≡ M.Made k → (k.field ≡ pack (multi_fields f)) × Faithful 23 (multi_fields f)
+pub multi-faithful : (f : FloatMulAlu) (k : Compute) → RangedMulti f → made_multi f ≡ Ok k → (k.field ≡ pack (multi_fields f)) × Faithful 23 (multi_fields f)
 unfolding made_multi
 multi-faithful f k h e = (
   made (first (multi_refusals f)) _ k e,

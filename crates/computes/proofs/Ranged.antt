@@ -8,8 +8,8 @@ use Rattle.registers.specs.declared.ModifyRegister.{ModifyRegister}
 use Rattle.registers.specs.declared.UniversalRegister.{UniversalRegister}
 use Rattle.items.specs.declared.FloatMulAlu.{FloatMulAlu}
 use Rattle.items.specs.declared.Instruction.{Instruction}
-use Rattle.items.specs.declared.OptionalCompute.{OptionalCompute}
-use Rattle.items.specs.declared.OptionalCompute.TheVariants.{Nothing, Held}
+use Rattle.std.specs.Prelude.{Some, None, Option}
+use Rattle.items.specs.declared.Compute.{Compute}
 use Rattle.items.specs.declared.DataAccess.{DataAccess}
 use Rattle.items.specs.declared.MemoryAccess.{MemoryAccess}
 use Rattle.items.specs.declared.LoopCount.{LoopCount}
@@ -39,9 +39,9 @@ RangedAccess register index modifier = (register.0 < 0x60) × (index.0 < 16) × 
 abbrev pub RangedOffset : UniversalRegister → IndexRegister → ℤ → Type 0
 RangedOffset register index offset = (register.0 < 0x60) × (index.0 < 16) × (mag offset < 2 ^ 31)
 
-abbrev pub RangedCompute : OptionalCompute → Type 0
-RangedCompute Nothing = Unit
-RangedCompute (Held k) = k.field < 2 ^ 23
+abbrev pub RangedCompute : Option Compute → Type 0
+RangedCompute None = Unit
+RangedCompute (Some k) = k.field < 2 ^ 23
 
 abbrev pub RangedData : DataAccess → Type 0
 RangedData access = (access.register.0 < 16) × (access.index.0 < 16) × (access.modifier.0 < 16)

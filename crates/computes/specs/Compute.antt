@@ -1,17 +1,15 @@
 -- Document 01, "Field tables": the 23 bits of a compute word, single or multifunction.
-use Rattle.std.specs.Prelude.{ℕ, ◌/◌, ◌%◌, not, List, [], ◌∷◌, eqb}
+use Rattle.std.specs.Prelude.{ℕ, ◌/◌, ◌%◌, not, List, [], ◌∷◌, eqb, Ok, Err, Result}
 use Rattle.fields.specs.Pack.{Field, fixed, operand, pack}
 use Rattle.registers.specs.declared.Register.{Register}
-use Rattle.refusals.specs.declared.Verdict.{Verdict}
-use Rattle.refusals.specs.declared.Verdict.TheVariants.{Good, Refused}
+use Rattle.refusals.specs.Answers.{Verdict}
+use Rattle.refusals.specs.declared.Refusal.{Refusal}
 use Rattle.refusals.specs.Order.{when, first}
 use Rattle.refusals.specs.declared.Refusal.TheVariants.{MultifunctionOperand, DuplicateDestination}
 use Rattle.items.specs.declared.AluOp.{AluOp}
 use Rattle.items.specs.declared.AluOp.TheVariants.{Add, Sub}
 use Rattle.items.specs.declared.Compute.{Compute}
 use Rattle.items.specs.declared.FloatMulAlu.{FloatMulAlu}
-use Rattle.computes.specs.declared.Made.{Made}
-use Rattle.computes.specs.declared.Made.TheVariants as M
 
 -- "Single: unit 21:20, opcode 19:12, rn 11:8, rx 7:4, ry 3:0"
 abbrev pub single : ℕ → ℕ → ℕ → ℕ → ℕ → List Field
@@ -24,8 +22,8 @@ multi opcode product destination mul_x mul_y alu_x alu_y =
     ∷ operand 7 6 mul_x ∷ operand 5 4 mul_y ∷ operand 3 2 alu_x ∷ operand 1 0 alu_y ∷ []
 
 -- `Compute::single`: the compute of these 23 bits, with its destination: 16 where there is none
-unfoldable pub made_single : List Field → ℕ → Made
-made_single fields destination = M.Made record { field = pack fields; first = destination; second = 16 }
+unfoldable pub made_single : List Field → ℕ → Result Compute Refusal
+made_single fields destination = Ok record { field = pack fields; first = destination; second = 16 }
 
 -- "opcode 18 or 19 (hex)"
 abbrev pub opcode_of : AluOp → ℕ
@@ -47,10 +45,10 @@ multi_refusals f =
     ∷ when (eqb f.product.0 f.alu_dst.0) (DuplicateDestination f.product.0) ∷ []
 
 -- the compute, or its first refusal
-abbrev pub made_by : Verdict → Compute → Made
-made_by Good compute = M.Made compute
-made_by (Refused refusal) compute = M.Refused refusal
+abbrev pub made_by : Verdict → Compute → Result Compute Refusal
+made_by (Ok _) compute = Ok compute
+made_by (Err refusal) compute = Err refusal
 
 -- `Compute::float_mul_alu`
-unfoldable pub made_multi : FloatMulAlu → Made
+unfoldable pub made_multi : FloatMulAlu → Result Compute Refusal
 made_multi f = made_by (first (multi_refusals f)) record { field = pack (multi_fields f); first = f.product.0; second = f.alu_dst.0 }

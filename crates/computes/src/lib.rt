@@ -9,13 +9,6 @@ ghost use Rattle.computes.specs.Compute.{single, multi, made_single, opcode_of, 
 use items::{AluOp, Compute, FloatMulAlu};
 use refusals::Refusal;
 
-// A compute, or why there is none.
-#[derive(Clone, Copy)]
-pub enum Made {
-    Made(Compute),
-    Refused(Refusal),
-}
-
 // The 23-bit field of a single compute.
 fn single_field(unit: u8, opcode: u8, rn: u8, rx: u8, ry: u8) -> u64
     ensures { (result ≡ pack (single unit opcode rn rx ry)) × (result < 2 ^ 32) }
@@ -36,10 +29,17 @@ pub fn compute_word(unit: u8, opcode: u8, rn: u8, rx: u8, ry: u8) -> u64
 
 // `Compute::single`: the compute of a single's fields, with its destination: 16 where there is none.
 #[tactic(auto, unfolding(crate::specs::Compute::made_single))]
-pub fn single(unit: u8, opcode: u8, rn: u8, rx: u8, ry: u8, destination: u8) -> Made
+pub fn single(
+    unit: u8,
+    opcode: u8,
+    rn: u8,
+    rx: u8,
+    ry: u8,
+    destination: u8,
+) -> Result<Compute, Refusal>
     ensures { result ≡ made_single (single unit opcode rn rx ry) destination }
 {
-    Made::Made(Compute {
+    Ok(Compute {
         field: single_field(unit, opcode, rn, rx, ry) as u32,
         first: destination,
         second: 16,
@@ -80,7 +80,7 @@ pub fn multi_field(
 
 // `Compute::float_mul_alu`: the multifunction compute, where its inputs stand in their groups and its destinations differ.
 #[tactic(auto, unfolding(crate::specs::Compute::made_multi))]
-pub fn float_mul_alu(f: FloatMulAlu) -> Made
+pub fn float_mul_alu(f: FloatMulAlu) -> Result<Compute, Refusal>
     ensures { result ≡ made_multi f }
 {
     let op = f.op;
@@ -91,19 +91,19 @@ pub fn float_mul_alu(f: FloatMulAlu) -> Made
     let alu_x = f.alu_x.0;
     let alu_y = f.alu_y.0;
     if mul_x / 4 != 0 {
-        return Made::Refused(Refusal::MultifunctionOperand(0, mul_x));
+        return Err(Refusal::MultifunctionOperand(0, mul_x));
     }
     if mul_y / 4 != 1 {
-        return Made::Refused(Refusal::MultifunctionOperand(1, mul_y));
+        return Err(Refusal::MultifunctionOperand(1, mul_y));
     }
     if alu_x / 4 != 2 {
-        return Made::Refused(Refusal::MultifunctionOperand(2, alu_x));
+        return Err(Refusal::MultifunctionOperand(2, alu_x));
     }
     if alu_y / 4 != 3 {
-        return Made::Refused(Refusal::MultifunctionOperand(3, alu_y));
+        return Err(Refusal::MultifunctionOperand(3, alu_y));
     }
     if product == destination {
-        return Made::Refused(Refusal::DuplicateDestination(product));
+        return Err(Refusal::DuplicateDestination(product));
     }
     let field = multi_field(
         alu_opcode(op),
@@ -114,7 +114,7 @@ pub fn float_mul_alu(f: FloatMulAlu) -> Made
         alu_x % 4,
         alu_y % 4,
     );
-    Made::Made(Compute {
+    Ok(Compute {
         field: field as u32,
         first: product,
         second: destination,

@@ -6,9 +6,9 @@ use mathlib.Core.Logic.{◌↔◌}
 use Prim.Native.Nat.{ℕ, ◌*◌}
 use lib.ListN.{length, take, drop}
 use Rattle.refusals.specs.declared.Refusal.TheVariants.{RowSlice}
-use Rattle.refusals.specs.declared.Verdict.{Verdict}
-use Rattle.refusals.specs.declared.Verdict.TheVariants.{Good}
-use Rattle.refusals.specs.declared.Judged.{Judged}
+use Rattle.std.specs.Prelude.{Ok}
+use Rattle.refusals.specs.Answers.{Verdict, Judged}
+use Rattle.coded.specs.Coded.{Coded, read_verdict, encodes}
 use Rattle.refusals.specs.declared.Told.{Told}
 use Rattle.refusals.specs.Numbers.{among}
 use Rattle.refusals.specs.Calls.{reading, encoding, numbers_of, Listed}
@@ -17,8 +17,6 @@ use Rattle.refusals.proofs.Numbered.{checked, answers_zero}
 use Rattle.refusals.proofs.Within.{Tells, tells-when, tells-or_else, tells-first_of, part, tells-wider, none, other}
 use Rattle.refusals.proofs.Calls.{answer-listed}
 use Rattle.rows.specs.Rows.{row_width, well_formed}
-use Rattle.coded.specs.declared.Coded.{Coded}
-use Rattle.coded.specs.Coded.{read_verdict, encodes}
 use Rattle.coded.proofs.Numbers.{row-tells, encodes-tells}
 use Rattle.places.specs.Items.{row_at, row_count, total}
 use Rattle.refusals.proofs.Order.{or_else-good, when-good, last_one, first-all, all_first}
@@ -39,7 +37,7 @@ module _ (f : Coded → Verdict) (rows names : List ℕ) where
   pub listed-verdict : (list_judged f rows names).verdict ≡ or_else (when (not (well_formed (length rows))) RowSlice) (first_of row (row_count rows))
   listed-verdict = ap (λ (v : Verdict). or_else (when (not (well_formed (length rows))) RowSlice) v) (last_one (first_of row (row_count rows)))
 
-  pub passes-good : ((list_judged f rows names).verdict ≡ Good) ↔ Passes f rows names
+  pub passes-good : ((list_judged f rows names).verdict ≡ Ok tt) ↔ Passes f rows names
   passes-good = (
     (λ e.
         let g = or_else-good (when (not (well_formed (length rows))) RowSlice) (first_of row (row_count rows)) (sym listed-verdict ∙ e) in

@@ -9,16 +9,15 @@ use lib.ListN.{length}
 use borrow.Author.Tests.{eq-eqb}
 use Rattle.refusals.specs.declared.Refusal.{Refusal}
 use Rattle.refusals.specs.declared.Refusal.TheVariants.{RowSlice}
-use Rattle.refusals.specs.declared.Verdict.{Verdict}
-use Rattle.refusals.specs.declared.Verdict.TheVariants.{Good, Refused}
-use Rattle.refusals.specs.declared.Judged.{Judged}
+use Rattle.std.specs.Prelude.{Ok, Err}
+use Rattle.refusals.specs.Answers.{Verdict, Judged}
+use Rattle.coded.specs.Coded.{Coded}
 use Rattle.refusals.specs.declared.Told.{Told}
 use Rattle.refusals.specs.Numbers.{alone, told_of, answer_of, answered, among}
 use Rattle.refusals.specs.Order.{when, said_of_row, first_in, foremost, FirstAt}
 use Rattle.refusals.proofs.Numbered.{checked}
 use Rattle.refusals.proofs.Order.{refused-good, last_one, first-at, foremost-here, foremost-on}
 use Rattle.rows.specs.Rows.{well_formed}
-use Rattle.coded.specs.declared.Coded.{Coded}
 use Rattle.places.specs.Items.{row_at, row_count, total}
 use Rattle.counts.specs.declared.Counting.{Counting}
 use Rattle.counts.specs.Counts.{row_verdict, amount, list_judged, Counts}
@@ -26,19 +25,19 @@ use Rattle.counts.specs.WhichRow.{NamesFirst, NamesRow}
 use Rattle.counts.proofs.Numbers.{row, row_not_one}
 
 -- ---- of two, the refusal is the first's, or the second's where the first is good
-module _ (a b : Judged) {why : Refusal} (e : (foremost (a ∷ b ∷ [])).verdict ≡ Refused why) where
+module _ (a b : Judged) {why : Refusal} (e : (foremost (a ∷ b ∷ [])).verdict ≡ Err why) where
   abbrev Which : Type 0
-  Which = ((a.verdict ≡ Refused why) × (foremost (a ∷ b ∷ []) ≡ a)) ⊎ ((a.verdict ≡ Good) × (b.verdict ≡ Refused why) × (foremost (a ∷ b ∷ []) ≡ b))
+  Which = ((a.verdict ≡ Err why) × (foremost (a ∷ b ∷ []) ≡ a)) ⊎ ((a.verdict ≡ Ok tt) × (b.verdict ≡ Err why) × (foremost (a ∷ b ∷ []) ≡ b))
 
   which-by : (v : Verdict) → a.verdict ≡ v → Which
-  which-by (Refused r) h = inl (h ∙ (rw h at e), foremost-here a (b ∷ []) h)
-  which-by Good h = let q = sym (last_one b.verdict) ∙ (rw h at e) in inr (h, q, foremost-on a (b ∷ []) h ∙ foremost-here b [] q)
+  which-by (Err r) h = inl (h ∙ (rw h at e), foremost-here a (b ∷ []) h)
+  which-by (Ok _) h = let q = sym (last_one b.verdict) ∙ (rw h at e) in inr (h, q, foremost-on a (b ∷ []) h ∙ foremost-here b [] q)
 
   pub which : Which
   which = which-by a.verdict refl
 
 -- ---- the row of a list's refusal
-pub when-refused : (t : Bool) (r : Refusal) {why : Refusal} → when t r ≡ Refused why → r ≡ why
+pub when-refused : (t : Bool) (r : Refusal) {why : Refusal} → when t r ≡ Err why → r ≡ why
 when-refused true r e = cc
 when-refused false r {why} e = absurd (refused-good why (sym e))
 
@@ -46,9 +45,9 @@ module _ (f : Coded → Verdict) (rows names : List ℕ) where
   abbrev listed : Judged
   listed = list_judged f rows names
 
-  pub listed-row : {why : Refusal} → listed.verdict ≡ Refused why → (listed ≡ said_of_row 0 (Refused RowSlice)) ⊎ FirstAt (row f rows names) (row_count rows) why listed.row
+  pub listed-row : {why : Refusal} → listed.verdict ≡ Err why → (listed ≡ said_of_row 0 (Err RowSlice)) ⊎ FirstAt (row f rows names) (row_count rows) why listed.row
   listed-row {why} e =
-      ⊎_elim (λ w. inl (w.1 ∙ ap (said_of_row 0) (w.0 ∙ ap Refused (sym (when-refused (not (well_formed (length rows))) RowSlice w.0)))))
+      ⊎_elim (λ w. inl (w.1 ∙ ap (said_of_row 0) (w.0 ∙ ap Err (sym (when-refused (not (well_formed (length rows))) RowSlice w.0)))))
       (λ w. inr (subst (λ (j : Judged). FirstAt (row f rows names) (row_count rows) why j.row) (sym w.2) (first-at (row f rows names) (row_count rows) w.1)))
       (which (said_of_row 0 (when (not (well_formed (length rows))) RowSlice)) (first_in (row f rows names) (row_count rows)) e)
 
@@ -57,8 +56,8 @@ module _ (f : Coded → Verdict) (rows names : List ℕ) where
   Says told = (told.number ≡ 0) ⊎ ((told ≡ alone 1) ⊎ NamesFirst (row f rows names) (row_count rows) told)
 
   says-by : (n : ℕ) (v : Verdict) → listed.verdict ≡ v → Says (answered (answer_of listed n))
-  says-by n Good e = inl (rw e)
-  says-by n (Refused why) e =
+  says-by n (Ok _) e = inl (rw e)
+  says-by n (Err why) e =
       ⊎_elim (λ j. inr (inl (ap (λ (j : Judged). answered (answer_of j n)) j)))
       (λ w. inr (inr (record { row = listed.row; why = why; first = w; said = rw e })))
       (listed-row e)

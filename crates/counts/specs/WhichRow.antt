@@ -1,7 +1,7 @@
 -- Document 02, wish 3, "which item": what is told of a list names the first row at fault.
 use Rattle.std.specs.Prelude.{◌≡◌, ℕ}
 use Rattle.refusals.specs.declared.Refusal.{Refusal}
-use Rattle.refusals.specs.declared.Verdict.{Verdict}
+use Rattle.refusals.specs.Answers.{Verdict}
 use Rattle.refusals.specs.declared.Told.{Told}
 use Rattle.refusals.specs.Numbers.{alone, told_of, in_row}
 use Rattle.refusals.specs.Order.{FirstAt}

@@ -3,61 +3,41 @@
 
 ghost use Rattle.std.specs.Prelude.{◌≡◌, length};
 ghost use Rattle.refusals.specs.Numbers.{answer_in, answered};
-ghost use Rattle.encode.specs.Encoding.{form_parcels, form_verdict};
-ghost use Rattle.counts.specs.Counts.{row_verdict, amount, count_of, Counts};
+ghost use Rattle.counts.specs.Counts.{row_verdict, amount, counted_in, count_of, Counts};
 
 use coded::Coded;
-use encode::Form;
+use items::Item;
 use refusals::{Answer, Refusal};
 
-// What a list is counted in.
+// What a list is counted in. An enum, and no closure: the contracts name it.
 #[derive(Clone, Copy)]
 pub enum Counting {
     Parcels,
     Instructions,
 }
 
-// The number of a form's parcels, or why it does not encode, with its row.
-fn form_count(form: Form, row: u32) -> Answer
-    ensures { result ≡ answer_in row (form_verdict form) (length (form_parcels form)) }
-{
-    match form {
-        Form::Short(_) => Answer::Accepted(1),
-        Form::Pair(_) => Answer::Accepted(2),
-        Form::Word(_) => Answer::Accepted(3),
-        Form::Leaf => Answer::Accepted(6),
-        Form::Refused(why) => Answer::Refused(why, row),
-    }
-}
-
 // The number of an item's parcels, or why its row is refused or does not encode.
-fn parcels_of(item: Coded, row: u32) -> Answer
-    ensures { result ≡ answer_in row (row_verdict Counting.Parcels item) (amount Counting.Parcels item) }
+fn parcels_of(item: Coded) -> Result<u32, Refusal>
+    ensures { result ≡ counted_in (row_verdict Counting.Parcels item) (amount Counting.Parcels item) }
 {
-    match item {
-        Coded::Instruction(coding) => {
-            let form = coding.form;
-            form_count(form, row)
+    match item? {
+        Item::Instruction(coding) => {
+            encode::form_verdict(coding.form)?;
+            Ok(encode::form_size(coding.form) as u32)
         }
-        Coded::Label { .. } => Answer::Accepted(0),
-        Coded::Jump { .. } => Answer::Accepted(3),
-        Coded::LoopBegin { .. } => Answer::Accepted(3),
-        Coded::LoopEnd => Answer::Accepted(0),
-        Coded::Refused(why) => Answer::Refused(why, row),
+        Item::Jump { .. } | Item::LoopBegin { .. } => Ok(3),
+        Item::Label { .. } | Item::LoopEnd => Ok(0),
     }
 }
 
 // How many instructions an item is, or why its row is refused.
-fn instructions_of(item: Coded, row: u32) -> Answer
-    ensures { result ≡ answer_in row (row_verdict Counting.Instructions item) (amount Counting.Instructions item) }
+fn instructions_of(item: Coded) -> Result<u32, Refusal>
+    ensures { result ≡ counted_in (row_verdict Counting.Instructions item) (amount Counting.Instructions item) }
 {
-    match item {
-        Coded::Instruction(coding) => Answer::Accepted(items::issued(coding.kind)),
-        Coded::Label { .. } => Answer::Accepted(0),
-        Coded::Jump { .. } => Answer::Accepted(1),
-        Coded::LoopBegin { .. } => Answer::Accepted(1),
-        Coded::LoopEnd => Answer::Accepted(0),
-        Coded::Refused(why) => Answer::Refused(why, row),
+    match item? {
+        Item::Instruction(coding) => Ok(items::issued(coding.kind)),
+        Item::Jump { .. } | Item::LoopBegin { .. } => Ok(1),
+        Item::Label { .. } | Item::LoopEnd => Ok(0),
     }
 }
 
@@ -65,10 +45,11 @@ fn instructions_of(item: Coded, row: u32) -> Answer
 fn count_row(item: Coded, row: u32, what: Counting) -> Answer
     ensures { result ≡ answer_in row (row_verdict what item) (amount what item) }
 {
-    match what {
-        Counting::Parcels => parcels_of(item, row),
-        Counting::Instructions => instructions_of(item, row),
-    }
+    let counted = match what {
+        Counting::Parcels => parcels_of(item),
+        Counting::Instructions => instructions_of(item),
+    };
+    counted.map_err(|why| why.at(row))
 }
 
 // The sum over the rows, or the refusal of the first row that has one, with that row.
@@ -76,24 +57,14 @@ fn count(rows: &[u32], names: &[u8], what: Counting) -> Answer
     ensures { result ≡ count_of what rows.now names.now }
 {
     if !rows::well_formed(rows) {
-        return Answer::Refused(Refusal::RowSlice, 0);
+        return Err(Refusal::RowSlice.at(0));
     }
-    let n = rows.len() / rows::ROW_WIDTH;
     let mut count = 0;
-    let mut i = 0;
-    while i < n {
-        let one = count_row(coded::coded_at(rows, i, names.len()), i as u32, what);
-        match one {
-            Answer::Accepted(k) => {
-                count += k;
-            }
-            Answer::Refused(why, row) => {
-                return Answer::Refused(why, row);
-            }
-        }
-        i += 1;
+    for i in 0..rows.len() / rows::ROW_WIDTH {
+        let item = coded::coded_at(rows, i, names.len());
+        count += count_row(item, i as u32, what)?;
     }
-    Answer::Accepted(count)
+    Ok(count)
 }
 
 // The number of parcels of a list whose rows are read and whose instructions encode. Loop and label rules don't matter.

@@ -11,11 +11,10 @@ use Rattle.fields.specs.Faithful.{Faithful}
 use Rattle.fields.proofs.Packed.{faithful}
 use Rattle.signs.specs.Signs.{folded, within}
 use Rattle.signs.proofs.Ints.{within_mag, folded_fits}
-use Rattle.refusals.specs.declared.Verdict.TheVariants as Is
+use Rattle.std.specs.Prelude.{Ok, Some, None, Option}
+use Rattle.items.specs.declared.Compute.{Compute}
 use Rattle.items.specs.declared.Condition.{Condition}
 use Rattle.items.specs.declared.Condition.TheVariants.{Eq, Ne, Sv, Sz, NotSv, Always, UnsignedGt}
-use Rattle.items.specs.declared.OptionalCompute.{OptionalCompute}
-use Rattle.items.specs.declared.OptionalCompute.TheVariants.{Nothing, Held}
 use Rattle.items.specs.declared.Instruction.{Instruction}
 use Rattle.items.specs.declared.VisaInstruction.{VisaInstruction}
 use Rattle.items.specs.declared.Instruction.TheVariants as Scalar
@@ -93,9 +92,9 @@ module _ (code index : ℕ) (z : ℤ) (store : Bool) where
   offset-tiles true = tiles_15b 0 0 0 0
   offset-tiles false = tiles_15a 0 0 0 0
 
-compute-fits : (k : OptionalCompute) → RangedCompute k → field_of k < 2 ^ 23
-compute-fits Nothing h = omega arith
-compute-fits (Held k) h = h
+compute-fits : (k : Option Compute) → RangedCompute k → field_of k < 2 ^ 23
+compute-fits None h = omega arith
+compute-fits (Some k) h = h
 
 -- ---- every instruction
 pub fits : (v : VisaInstruction) → Ranged v → AllGood (layout_of v).refusals → Fits (layout_of v).fields
@@ -162,6 +161,6 @@ tiles Visa.Nop = tiles_21c
 tiles Visa.WideNop = tiles_21a
 
 -- THE THEOREM of instructions
-pub instruction-faithful : (v : VisaInstruction) → Ranged v → verdict_of v ≡ Is.Good → Faithful (16 * (layout_of v).parcels) (layout_of v).fields
+pub instruction-faithful : (v : VisaInstruction) → Ranged v → verdict_of v ≡ Ok tt → Faithful (16 * (layout_of v).parcels) (layout_of v).fields
 unfolding verdict_of form_of
 instruction-faithful v h g = faithful (16 * (layout_of v).parcels) (layout_of v).fields (tiles v) (fits v h (good-passed (layout_of v) g))

@@ -8,8 +8,8 @@ use lib.IntN.{pos, negsuc}
 use Rattle.fields.specs.Pack.{pack}
 use Rattle.fields.specs.Parcels.{cut}
 use Rattle.signs.specs.Signs.{within}
-use Rattle.refusals.specs.declared.Verdict.{Verdict}
-use Rattle.refusals.specs.declared.Verdict.TheVariants as Is
+use Rattle.std.specs.Prelude.{Ok, Err}
+use Rattle.refusals.specs.Answers.{Verdict}
 use Rattle.refusals.specs.Order.{first}
 use Rattle.items.specs.declared.VisaInstruction.{VisaInstruction}
 use Rattle.items.specs.declared.VisaInstruction.TheVariants as Visa
@@ -68,24 +68,24 @@ in_parcels v (inl e) = rw e
 in_parcels v (inr w) = wide-parcels (layout_of v).parcels (pack (layout_of v).fields) w
 
 -- THE THEOREM of parcels: they come from the list of fields alone
-pub laid-parcels : (v : VisaInstruction) → verdict_of v ≡ Is.Good → parcels_of v ≡ cut (layout_of v).parcels (pack (layout_of v).fields)
+pub laid-parcels : (v : VisaInstruction) → verdict_of v ≡ Ok tt → parcels_of v ≡ cut (layout_of v).parcels (pack (layout_of v).fields)
 unfolding parcels_of verdict_of form_of
 laid-parcels v g = ap form_parcels (good-word (layout_of v) g) ∙ in_parcels v (wide v)
 
 -- a leaf return's form is no other instruction's
-not_leaf : (n word : ℕ) → Wide n → form_in n word ≡ Leaf → ⊥
+not_leaf : (n word : ℕ) → Wide n → form_in n word ≡ Ok Leaf → ⊥
 not_leaf n word (one e) l = let y = rw e at l in let z : ◌≡◌ {A = ℕ} 0 1 = cc in omega arith
 not_leaf n word (two e) l = let y = rw e at l in let z : ◌≡◌ {A = ℕ} 0 1 = cc in omega arith
 not_leaf n word (three e) l = let y = rw e at l in let z : ◌≡◌ {A = ℕ} 0 1 = cc in omega arith
 
-by-leaf : (w : Verdict) (l : Layout) → Wide l.parcels → form_by w l ≡ Leaf → ⊥
-by-leaf Is.Good l n e = not_leaf l.parcels (pack l.fields) n e
-by-leaf (Is.Refused r) l n e = let z : ◌≡◌ {A = ℕ} 0 1 = cc in omega arith
+by-leaf : (w : Verdict) (l : Layout) → Wide l.parcels → form_by w l ≡ Ok Leaf → ⊥
+by-leaf (Ok _) l n e = not_leaf l.parcels (pack l.fields) n e
+by-leaf (Err r) l n e = let z : ◌≡◌ {A = ℕ} 0 1 = cc in omega arith
 
-pub leaf-only : (v : VisaInstruction) → (v ≡ Visa.LeafReturn) ⊎ (form_of v ≡ Leaf → ⊥)
+pub leaf-only : (v : VisaInstruction) → (v ≡ Visa.LeafReturn) ⊎ (form_of v ≡ Ok Leaf → ⊥)
 unfolding form_of
 leaf-only v = go (wide v)
   where
-    go : (v ≡ Visa.LeafReturn) ⊎ Wide (layout_of v).parcels → (v ≡ Visa.LeafReturn) ⊎ (form_by (first (layout_of v).refusals) (layout_of v) ≡ Leaf → ⊥)
+    go : (v ≡ Visa.LeafReturn) ⊎ Wide (layout_of v).parcels → (v ≡ Visa.LeafReturn) ⊎ (form_by (first (layout_of v).refusals) (layout_of v) ≡ Ok Leaf → ⊥)
     go (inl e) = inl e
     go (inr w) = inr (λ e. by-leaf (first (layout_of v).refusals) (layout_of v) w e)

@@ -14,7 +14,8 @@ use Rattle.refusals.specs.Calls.{encoding}
 use Rattle.refusals.specs.Order.{first}
 use Rattle.refusals.proofs.Within.{Tells, AllTell, tells-when, tells_first}
 use Rattle.items.specs.declared.Condition.{Condition}
-use Rattle.items.specs.declared.OptionalCompute.{OptionalCompute}
+use Rattle.std.specs.Prelude.{Option}
+use Rattle.items.specs.declared.Compute.{Compute}
 use Rattle.items.specs.declared.DataAccess.{DataAccess}
 use Rattle.items.specs.declared.MemoryAccess.{MemoryAccess}
 use Rattle.items.specs.declared.LoopCount.{LoopCount}
@@ -49,7 +50,7 @@ jump_tell z = (tells-when encoding (not (within (negsuc 0x7f_ffff) (pos 0x7f_fff
 call_tell : (t : ℕ) → AllTell encoding (call_refusals t)
 call_tell t = (tells-when encoding (ltb 0xff_ffff t) (CallTargetOutOfRange t) refl, tt)
 
-dual_tell : (k : OptionalCompute) (dm pm : DataAccess) → AllTell encoding (dual_refusals k dm pm)
+dual_tell : (k : Option Compute) (dm pm : DataAccess) → AllTell encoding (dual_refusals k dm pm)
 dual_tell k dm pm = (
   tells-when encoding (is_pm dm.index.0) (InvalidDmIndex dm.index.0) refl,
   (
@@ -67,7 +68,7 @@ dual_tell k dm pm = (
 store_tell : (i : IndexRegister) (m : ModifyRegister) → AllTell encoding (store_refusals i m)
 store_tell i m = (tells-when encoding (mixed i.0 m.0) (MixedDag i.0 m.0) refl, tt)
 
-memory_tell : (k : OptionalCompute) (a : MemoryAccess) → AllTell encoding (memory_refusals k a)
+memory_tell : (k : Option Compute) (a : MemoryAccess) → AllTell encoding (memory_refusals k a)
 memory_tell k a = (
   (store_tell a.index a.modifier).0,
   (tells-when encoding (same_dag a) (SameDagRegister a.register.0) refl, (tells-when encoding (memory_clashes k a) (DuplicateDestination a.register.0) refl, tt)),

@@ -13,7 +13,7 @@ use Rattle.items.specs.declared.Condition.{Condition}
 use Rattle.items.specs.declared.LoopCount.{LoopCount}
 use Rattle.items.specs.declared.LoopCount.TheVariants.{Immediate, Register}
 use Rattle.items.specs.declared.LoopMode.{LoopMode}
-use Rattle.refusals.specs.declared.Verdict.TheVariants.{Good}
+use Rattle.std.specs.Prelude.{Ok}
 use Rattle.encode.specs.declared.Form.TheVariants.{Word}
 use Rattle.encode.specs.Layouts.{jump_layout, loop_layout}
 use Rattle.encode.specs.Encoding.{form_verdict, jump_form, loop_form}
@@ -45,7 +45,7 @@ no_not : (t : Bool) → t ≡ true → not t ≡ false
 no_not t e = rw e
 
 -- a jump's offset, label minus jump start, from -0x800000 to 0x7fffff
-pub jump-reach : (c : Condition) (a b : ℕ) (d : Bool) → form_verdict (jump_form c (pos a -ℤ pos b) d) ≡ Good ↔ ((b ≤ a + 0x80_0000) × (a < b + 0x80_0000))
+pub jump-reach : (c : Condition) (a b : ℕ) (d : Bool) → form_verdict (jump_form c (pos a -ℤ pos b) d) ≡ Ok tt ↔ ((b ≤ a + 0x80_0000) × (a < b + 0x80_0000))
 unfolding jump_form
 jump-reach c a b d =
     let l = jump_layout c (pos a -ℤ pos b) d in
@@ -54,12 +54,12 @@ jump-reach c a b d =
       (λ r. passed-good l (good-when _ _ (no_not _ (w.1 (omega arith))), tt)),
     )
 
-pub jump-word : (c : Condition) (z : ℤ) (d : Bool) → form_verdict (jump_form c z d) ≡ Good → (w : ℕ) × (jump_form c z d ≡ Word w)
+pub jump-word : (c : Condition) (z : ℤ) (d : Bool) → form_verdict (jump_form c z d) ≡ Ok tt → (w : ℕ) × (jump_form c z d ≡ Ok (Word w))
 unfolding jump_form
 jump-word c z d e = (_, good-word (jump_layout c z d) e)
 
 -- a loop's offset, from -0x400000 to 0x3fffff, and its count
-pub loop-reach : (c : LoopCount) (m : LoopMode) (a b : ℕ) → form_verdict (loop_form c m (pos a -ℤ pos b)) ≡ Good ↔ ((b ≤ a + 0x40_0000) × (a < b + 0x40_0000) × (c ≡ Immediate 0 → ⊥))
+pub loop-reach : (c : LoopCount) (m : LoopMode) (a b : ℕ) → form_verdict (loop_form c m (pos a -ℤ pos b)) ≡ Ok tt ↔ ((b ≤ a + 0x40_0000) × (a < b + 0x40_0000) × (c ≡ Immediate 0 → ⊥))
 unfolding loop_form
 loop-reach (Immediate n) m a b =
     let l = loop_layout (Immediate n) m (pos a -ℤ pos b) in
@@ -77,7 +77,7 @@ loop-reach (Register u) m a b =
       (λ r. passed-good l (good-when _ _ (no_not _ (w.1 (let u = r.0 in let v = r.1 in omega arith))), (refl, tt))),
     )
 
-pub loop-word : (c : LoopCount) (m : LoopMode) (z : ℤ) → form_verdict (loop_form c m z) ≡ Good → (w : ℕ) × (loop_form c m z ≡ Word w)
+pub loop-word : (c : LoopCount) (m : LoopMode) (z : ℤ) → form_verdict (loop_form c m z) ≡ Ok tt → (w : ℕ) × (loop_form c m z ≡ Ok (Word w))
 unfolding loop_form
 loop-word (Immediate n) m z e = (_, good-word (loop_layout (Immediate n) m z) e)
 loop-word (Register r) m z e = (_, good-word (loop_layout (Register r) m z) e)

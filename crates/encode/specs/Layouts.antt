@@ -1,15 +1,14 @@
 -- What each instruction encodes as: what it refuses, in order; else so many parcels, and the fields that tile them.
-use Rattle.std.specs.Prelude.{ℕ, ◌%◌, Bool, true, false, cond, List, [], ℤ, pos, negsuc, eqb}
+use Rattle.std.specs.Prelude.{ℕ, ◌%◌, Bool, true, false, cond, List, [], ℤ, pos, negsuc, eqb, Some, None, Option}
 use Rattle.fields.specs.Pack.{Field}
 use Rattle.signs.specs.Signs.{folded, within}
 use Rattle.registers.specs.declared.UniversalRegister.{UniversalRegister}
 use Rattle.registers.specs.declared.IndexRegister.{IndexRegister}
 use Rattle.registers.specs.declared.ModifyRegister.{ModifyRegister}
-use Rattle.refusals.specs.declared.Verdict.{Verdict}
+use Rattle.refusals.specs.Answers.{Verdict}
+use Rattle.items.specs.declared.Compute.{Compute}
 use Rattle.items.specs.declared.Instruction.{Instruction}
 use Rattle.items.specs.declared.Condition.{Condition}
-use Rattle.items.specs.declared.OptionalCompute.{OptionalCompute}
-use Rattle.items.specs.declared.OptionalCompute.TheVariants.{Nothing, Held}
 use Rattle.items.specs.declared.DataAccess.{DataAccess}
 use Rattle.items.specs.declared.MemoryAccess.{MemoryAccess}
 use Rattle.items.specs.declared.LoopCount.{LoopCount}
@@ -70,9 +69,9 @@ loop_layout (Immediate count) mode offset = laid (loop_refusals (eqb count 0) of
 loop_layout (Register register) mode offset = laid (loop_refusals false offset) 3 (register_loop12a register.0 (bit_of (is_f1 mode)) (folded 23 offset))
 
 -- the field of the compute beside a move: 0 where there is none
-abbrev pub field_of : OptionalCompute → ℕ
-field_of Nothing = 0
-field_of (Held k) = k.field
+abbrev pub field_of : Option Compute → ℕ
+field_of None = 0
+field_of (Some k) = k.field
 
 -- 1a of the two accesses, 3a of the access, and the compute's 23 bits
 abbrev pub dual_fields : DataAccess → DataAccess → List Field → List Field

@@ -1,13 +1,13 @@
 -- Document 01, "Refusal numbers", "Order": what the instructions refuse, in order.
-use Rattle.std.specs.Prelude.{ℕ, Bool, false, not, ◌&&◌, List, [], ◌∷◌, ◌++◌, ℤ, pos, negsuc, leb, ltb}
+use Rattle.std.specs.Prelude.{ℕ, Bool, false, not, ◌&&◌, List, [], ◌∷◌, ◌++◌, ℤ, pos, negsuc, leb, ltb, Option}
 use Rattle.signs.specs.Signs.{within}
 use Rattle.registers.specs.declared.UniversalRegister.{UniversalRegister}
 use Rattle.registers.specs.declared.IndexRegister.{IndexRegister}
 use Rattle.registers.specs.declared.ModifyRegister.{ModifyRegister}
 use Rattle.refusals.specs.declared.Refusal.TheVariants.{InvalidDmIndex, InvalidDmModifier, UnsupportedPostModifyRegister, Dag1StoreSource, BranchOutOfRange, CallTargetOutOfRange, InvalidPmIndex, InvalidPmModifier, MixedDag, SameDagRegister, DuplicateDestination, LoopCountZero, LoopOutOfRange}
-use Rattle.refusals.specs.declared.Verdict.{Verdict}
+use Rattle.refusals.specs.Answers.{Verdict}
+use Rattle.items.specs.declared.Compute.{Compute}
 use Rattle.refusals.specs.Order.{when}
-use Rattle.items.specs.declared.OptionalCompute.{OptionalCompute}
 use Rattle.items.specs.declared.DataAccess.{DataAccess}
 use Rattle.items.specs.declared.MemoryAccess.{MemoryAccess}
 use Rattle.encode.specs.Registers.{is_pm, in_dag, mixed, dm_clashes, pm_clashes, same_dag, memory_clashes}
@@ -31,7 +31,7 @@ abbrev pub call_refusals : ℕ → List Verdict
 call_refusals target = when (ltb 0xff_ffff target) (CallTargetOutOfRange target) ∷ []
 
 -- "Dual move: 5, 6, 13, 14, 19 (DM load first)"
-abbrev pub dual_refusals : OptionalCompute → DataAccess → DataAccess → List Verdict
+abbrev pub dual_refusals : Option Compute → DataAccess → DataAccess → List Verdict
 dual_refusals k dm pm =
     when (is_pm dm.index.0) (InvalidDmIndex dm.index.0) ∷ when (is_pm dm.modifier.0) (InvalidDmModifier dm.modifier.0)
     ∷ when (not (is_pm pm.index.0)) (InvalidPmIndex pm.index.0) ∷ when (not (is_pm pm.modifier.0)) (InvalidPmModifier pm.modifier.0)
@@ -41,7 +41,7 @@ dual_refusals k dm pm =
 abbrev pub store_refusals : IndexRegister → ModifyRegister → List Verdict
 store_refusals index modifier = when (mixed index.0 modifier.0) (MixedDag index.0 modifier.0) ∷ []
 
-abbrev pub memory_refusals : OptionalCompute → MemoryAccess → List Verdict
+abbrev pub memory_refusals : Option Compute → MemoryAccess → List Verdict
 memory_refusals k access =
     store_refusals access.index access.modifier ++
     when (same_dag access) (SameDagRegister access.register.0) ∷ when (memory_clashes k access) (DuplicateDestination access.register.0) ∷ []

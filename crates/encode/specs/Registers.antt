@@ -1,8 +1,7 @@
 -- The rules on registers that the encoding refusals test.
-use Rattle.std.specs.Prelude.{ℕ, ◌/◌, ◌%◌, Bool, false, not, ◌&&◌, ◌||◌, leb, ltb, eqb}
+use Rattle.std.specs.Prelude.{ℕ, ◌/◌, ◌%◌, Bool, false, not, ◌&&◌, ◌||◌, leb, ltb, eqb, Some, None, Option}
 use Rattle.std.specs.Bool.{beq}
-use Rattle.items.specs.declared.OptionalCompute.{OptionalCompute}
-use Rattle.items.specs.declared.OptionalCompute.TheVariants.{Nothing, Held}
+use Rattle.items.specs.declared.Compute.{Compute}
 use Rattle.items.specs.declared.DataAccess.{DataAccess}
 use Rattle.items.specs.declared.MemoryAccess.{MemoryAccess}
 use Rattle.words.specs.Forms.{is_store, is_post}
@@ -20,20 +19,20 @@ abbrev pub mixed : ℕ → ℕ → Bool
 mixed index modifier = not (beq (is_pm index) (is_pm modifier))
 
 -- the compute writes the register
-unfoldable pub writes : OptionalCompute → ℕ → Bool
-writes Nothing number = false
-writes (Held k) number = eqb k.first number || eqb k.second number
+unfoldable pub writes : Option Compute → ℕ → Bool
+writes None number = false
+writes (Some k) number = eqb k.first number || eqb k.second number
 
 -- the access loads its register
 abbrev pub loads : DataAccess → Bool
 loads access = not (is_store access.direction)
 
 -- the DM load writes what the compute writes
-unfoldable pub dm_clashes : OptionalCompute → DataAccess → Bool
+unfoldable pub dm_clashes : Option Compute → DataAccess → Bool
 dm_clashes k dm = loads dm && writes k dm.register.0
 
 -- the PM load writes what the compute or the DM load writes
-unfoldable pub pm_clashes : OptionalCompute → DataAccess → DataAccess → Bool
+unfoldable pub pm_clashes : Option Compute → DataAccess → DataAccess → Bool
 pm_clashes k dm pm = loads pm && (writes k pm.register.0 || (loads dm && eqb dm.register.0 pm.register.0))
 
 -- a post-modify access or a store of a register of the DAG that addresses it
@@ -41,5 +40,5 @@ unfoldable pub same_dag : MemoryAccess → Bool
 same_dag access = (is_post access.update || is_store access.direction) && in_dag access.register.0 (is_pm access.index.0)
 
 -- the load writes a data register that the compute writes
-unfoldable pub memory_clashes : OptionalCompute → MemoryAccess → Bool
+unfoldable pub memory_clashes : Option Compute → MemoryAccess → Bool
 memory_clashes k access = not (is_store access.direction) && (ltb access.register.0 16 && writes k access.register.0)

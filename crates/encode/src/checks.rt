@@ -2,7 +2,7 @@
 ghost use Rattle.std.specs.Prelude.{◌≡◌, ◌&&◌, false};
 ghost use Rattle.encode.specs.Registers.{in_dag, mixed, writes, dm_clashes, pm_clashes, same_dag, memory_clashes};
 
-use items::{DataAccess, MemoryAccess, OptionalCompute};
+use items::{Compute, DataAccess, MemoryAccess};
 
 // Whether a code is an I, M, L or B register of DAG2 (pm), or of DAG1.
 #[tactic(auto, unfolding(crate::specs::Registers::in_dag))]
@@ -38,12 +38,12 @@ pub fn store_clashes(store: bool, code: u8) -> bool
 
 // Whether the compute writes the register.
 #[tactic(auto, unfolding(crate::specs::Registers::writes))]
-fn does_write(k: OptionalCompute, number: u8) -> bool
+fn does_write(k: Option<Compute>, number: u8) -> bool
     ensures { result ≡ writes k number }
 {
     match k {
-        OptionalCompute::Nothing => false,
-        OptionalCompute::Held(held) => {
+        None => false,
+        Some(held) => {
             if held.first == number {
                 return true;
             }
@@ -54,7 +54,7 @@ fn does_write(k: OptionalCompute, number: u8) -> bool
 
 // Whether the DM load of a dual move writes what the compute writes.
 #[tactic(auto, unfolding(crate::specs::Registers::dm_clashes))]
-pub fn dm_clashes(k: OptionalCompute, dm: DataAccess) -> bool
+pub fn dm_clashes(k: Option<Compute>, dm: DataAccess) -> bool
     ensures { result ≡ dm_clashes k dm }
 {
     let direction = dm.direction;
@@ -66,7 +66,7 @@ pub fn dm_clashes(k: OptionalCompute, dm: DataAccess) -> bool
 
 // Whether the PM load of a dual move writes what the compute or the DM load writes.
 #[tactic(auto, unfolding(crate::specs::Registers::pm_clashes))]
-pub fn pm_clashes(k: OptionalCompute, dm: DataAccess, pm: DataAccess) -> bool
+pub fn pm_clashes(k: Option<Compute>, dm: DataAccess, pm: DataAccess) -> bool
     ensures { result ≡ pm_clashes k dm pm }
 {
     let direction = pm.direction;
@@ -101,7 +101,7 @@ pub fn same_dag(access: MemoryAccess) -> bool
 
 // Whether the load of a memory move writes a data register that the compute writes.
 #[tactic(auto, unfolding(crate::specs::Registers::memory_clashes))]
-pub fn memory_clashes(k: OptionalCompute, access: MemoryAccess) -> bool
+pub fn memory_clashes(k: Option<Compute>, access: MemoryAccess) -> bool
     ensures { result ≡ memory_clashes k access }
 {
     let direction = access.direction;

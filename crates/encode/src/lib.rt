@@ -18,37 +18,35 @@ use signs::{fold, within};
 // The parcels of the leaf return.
 pub const LEAF_RETURN_PARCELS: [u16; 6] = [0x4dfe, 0x0e3f, 0x083f, 0x343f, 0x1901, 0x0001];
 
-// What an instruction comes to: a word of one, two or three parcels, the leaf return, or its refusal.
+// What an instruction comes to: a word of one, two or three parcels, or the leaf return.
 #[derive(Clone, Copy)]
 pub enum Form {
     Short(u64),
     Pair(u64),
     Word(u64),
     Leaf,
-    Refused(Refusal),
 }
 
 // One instruction's parcels: the count and six places, of which the unused ones are zero.
 #[derive(Clone, Copy)]
 pub struct Encoded {
-    pub verdict: Verdict,
     pub count: usize,
     pub places: [u16; 6],
 }
 
 // A jump over an offset from its own first parcel.
 #[tactic(auto, unfolding(crate::specs::Encoding::jump_form))]
-pub fn jump_form(condition: Condition, offset: i64, delayed: bool) -> Form
+pub fn jump_form(condition: Condition, offset: i64, delayed: bool) -> Result<Form, Refusal>
     ensures { result ≡ jump_form condition offset delayed }
 {
     if within(-0x80_0000, 0x7f_ffff, offset) {
-        return Form::Word(words::jump_word(condition, delayed, fold(offset, 0x100_0000)));
+        return Ok(Form::Word(words::jump_word(condition, delayed, fold(offset, 0x100_0000))));
     }
-    Form::Refused(Refusal::BranchOutOfRange(offset))
+    Err(Refusal::BranchOutOfRange(offset))
 }
 
 // A jump over an offset of 32 bits.
-fn jump_relative(condition: Condition, offset: i32, delayed: bool) -> Form
+fn jump_relative(condition: Condition, offset: i32, delayed: bool) -> Result<Form, Refusal>
     ensures { result ≡ jump_form condition offset delayed }
 {
     let z = offset as i64;
@@ -57,52 +55,54 @@ fn jump_relative(condition: Condition, offset: i32, delayed: bool) -> Form
 
 // A call of an absolute address.
 #[tactic(auto, unfolding(crate::specs::Encoding::form_of, crate::specs::Layouts::layout_of))]
-fn call_form(target: u32) -> Form
+fn call_form(target: u32) -> Result<Form, Refusal>
     ensures { result ≡ form_of (CJump target) }
 {
     if 0xff_ffff < target {
-        return Form::Refused(Refusal::CallTargetOutOfRange(target));
+        return Err(Refusal::CallTargetOutOfRange(target));
     }
-    Form::Word(words::call_word(target))
+    Ok(Form::Word(words::call_word(target)))
 }
 
 // `loop_word`: a loop start over the offset of its last instruction.
 #[tactic(auto, unfolding(crate::specs::Encoding::loop_form))]
-pub fn loop_form(count: LoopCount, mode: LoopMode, offset: i64) -> Form
+pub fn loop_form(count: LoopCount, mode: LoopMode, offset: i64) -> Result<Form, Refusal>
     ensures { result ≡ loop_form count mode offset }
 {
     if !within(-0x40_0000, 0x3f_ffff, offset) {
-        return Form::Refused(Refusal::LoopOutOfRange(offset));
+        return Err(Refusal::LoopOutOfRange(offset));
     }
     let f1 = words::is_f1(mode);
     let folded = fold(offset, 0x80_0000);
     match count {
         LoopCount::Immediate(n) => {
             if n == 0 {
-                return Form::Refused(Refusal::LoopCountZero);
+                return Err(Refusal::LoopCountZero);
             }
-            Form::Word(words::count_loop_word(n, f1, folded))
+            Ok(Form::Word(words::count_loop_word(n, f1, folded)))
         }
-        LoopCount::Register(register) => Form::Word(words::register_loop_word(
+        LoopCount::Register(register) => Ok(Form::Word(words::register_loop_word(
             register.0, f1, folded,
-        )),
+        ))),
     }
 }
 
 // What an instruction comes to.
 #[tactic(auto, unfolding(crate::specs::Encoding::form_of, crate::specs::Encoding::jump_form, crate::specs::Layouts::layout_of))]
-pub fn visa_form(v: VisaInstruction) -> Form
+pub fn visa_form(v: VisaInstruction) -> Result<Form, Refusal>
     ensures { result ≡ form_of v }
 {
     match v {
-        VisaInstruction::Scalar(i) => Form::Word(scalars::scalar_word(i)),
-        VisaInstruction::Transfer { dst, src } => Form::Pair(words::transfer_word(dst.0, src.0)),
-        VisaInstruction::LoadImmediate { dst, value } => Form::Word(words::long_word(
+        VisaInstruction::Scalar(i) => Ok(Form::Word(scalars::scalar_word(i))),
+        VisaInstruction::Transfer { dst, src } => Ok(Form::Pair(words::transfer_word(
+            dst.0, src.0,
+        ))),
+        VisaInstruction::LoadImmediate { dst, value } => Ok(Form::Word(words::long_word(
             0x0f, dst.0, value,
-        )),
-        VisaInstruction::ModifyIndex { index, offset } => Form::Word(moves::modify_index(
+        ))),
+        VisaInstruction::ModifyIndex { index, offset } => Ok(Form::Word(moves::modify_index(
             index, offset,
-        )),
+        ))),
         VisaInstruction::LoadDmPostModify {
             dst,
             index,
@@ -129,26 +129,26 @@ pub fn visa_form(v: VisaInstruction) -> Form
         VisaInstruction::StoreDmOffset { src, index, offset } => moves::dm_offset(
             src, index, offset, true,
         ),
-        VisaInstruction::IntegerSubOne { dst, src } => Form::Word(compute_word(
+        VisaInstruction::IntegerSubOne { dst, src } => Ok(Form::Word(compute_word(
             0, 0x2a, dst.0, src.0, 0,
-        )),
-        VisaInstruction::IntegerPass { dst, src } => Form::Word(compute_word(
+        ))),
+        VisaInstruction::IntegerPass { dst, src } => Ok(Form::Word(compute_word(
             0, 0x21, dst.0, src.0, 0,
-        )),
-        VisaInstruction::IntegerCompareUnsigned { lhs, rhs } => Form::Word(compute_word(
+        ))),
+        VisaInstruction::IntegerCompareUnsigned { lhs, rhs } => Ok(Form::Word(compute_word(
             0, 0x0b, 0, lhs.0, rhs.0,
-        )),
+        ))),
         VisaInstruction::JumpRelative {
             condition,
             offset,
             delayed,
         } => jump_relative(condition, offset, delayed),
         VisaInstruction::CJump { target } => call_form(target),
-        VisaInstruction::PushImmediate { value } => Form::Word(words::store_word(
+        VisaInstruction::PushImmediate { value } => Ok(Form::Word(words::store_word(
             7, 7, false, value,
-        )),
-        VisaInstruction::LeafReturn => Form::Leaf,
-        VisaInstruction::Compute(compute) => Form::Word(words::field_word(compute.field)),
+        ))),
+        VisaInstruction::LeafReturn => Ok(Form::Leaf),
+        VisaInstruction::Compute(compute) => Ok(Form::Word(words::field_word(compute.field))),
         VisaInstruction::DualMove { compute, dm, pm } => moves::dual_move(compute, dm, pm),
         VisaInstruction::MemoryMove { compute, access } => moves::memory_move(compute, access),
         VisaInstruction::StoreImmediate {
@@ -156,25 +156,23 @@ pub fn visa_form(v: VisaInstruction) -> Form
             modifier,
             value,
         } => moves::store_immediate(index, modifier, value),
-        VisaInstruction::BitSetMode1 { mask } => Form::Word(words::mode_word(false, mask)),
-        VisaInstruction::BitClearMode1 { mask } => Form::Word(words::mode_word(true, mask)),
-        VisaInstruction::Nop => Form::Short(1),
-        VisaInstruction::WideNop => Form::Word(0),
+        VisaInstruction::BitSetMode1 { mask } => Ok(Form::Word(words::mode_word(false, mask))),
+        VisaInstruction::BitClearMode1 { mask } => Ok(Form::Word(words::mode_word(true, mask))),
+        VisaInstruction::Nop => Ok(Form::Short(1)),
+        VisaInstruction::WideNop => Ok(Form::Word(0)),
     }
 }
 
 // A form cut into parcels.
-pub fn cut_form(f: Form) -> Encoded
+pub fn cut_form(f: Result<Form, Refusal>) -> Result<Encoded, Refusal>
     ensures { result ≡ form_encoded f }
 {
-    match f {
+    Ok(match f? {
         Form::Short(w) => Encoded {
-            verdict: Verdict::Good,
             count: 1,
             places: [(w % 0x1_0000) as u16, 0, 0, 0, 0, 0],
         },
         Form::Pair(w) => Encoded {
-            verdict: Verdict::Good,
             count: 2,
             places: [
                 (w / 0x1_0000 % 0x1_0000) as u16,
@@ -188,59 +186,44 @@ pub fn cut_form(f: Form) -> Encoded
         Form::Word(w) => {
             let p = full_word_parcels(w);
             Encoded {
-                verdict: Verdict::Good,
                 count: 3,
                 places: [p[0], p[1], p[2], 0, 0, 0],
             }
         }
         Form::Leaf => Encoded {
-            verdict: Verdict::Good,
             count: 6,
             places: LEAF_RETURN_PARCELS,
         },
-        Form::Refused(refusal) => Encoded {
-            verdict: Verdict::Refused(refusal),
-            count: 0,
-            places: [0; 6],
-        },
-    }
+    })
 }
 
 // Whether a form encodes.
-pub fn form_verdict(form: Form) -> Verdict
+pub fn form_verdict(form: Result<Form, Refusal>) -> Verdict
     ensures { result ≡ form_verdict form }
 {
-    match form {
-        Form::Short(_) => Verdict::Good,
-        Form::Pair(_) => Verdict::Good,
-        Form::Word(_) => Verdict::Good,
-        Form::Leaf => Verdict::Good,
-        Form::Refused(r) => Verdict::Refused(r),
-    }
+    form?;
+    Ok(())
 }
 
 // How many parcels a form is.
-pub fn form_size(form: Form) -> usize
+pub fn form_size(form: Result<Form, Refusal>) -> usize
     ensures { (result ≡ length (form_parcels form)) × (result ≤ 6) }
 {
     match form {
-        Form::Short(_) => 1,
-        Form::Pair(_) => 2,
-        Form::Word(_) => 3,
-        Form::Leaf => 6,
-        Form::Refused(_) => 0,
+        Ok(Form::Short(_)) => 1,
+        Ok(Form::Pair(_)) => 2,
+        Ok(Form::Word(_)) => 3,
+        Ok(Form::Leaf) => 6,
+        Err(_) => 0,
     }
 }
 
 // The three parcels of a word that waited as zeros.
-pub fn settled(form: Form) -> [u16; 3]
+pub fn settled(form: Result<Form, Refusal>) -> [u16; 3]
     ensures { result ≡ settled form }
 {
     match form {
-        Form::Short(_) => [0; 3],
-        Form::Pair(_) => [0; 3],
-        Form::Word(w) => full_word_parcels(w),
-        Form::Leaf => [0; 3],
-        Form::Refused(_) => [0; 3],
+        Ok(Form::Word(w)) => full_word_parcels(w),
+        _ => [0; 3],
     }
 }

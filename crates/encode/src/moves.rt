@@ -9,18 +9,18 @@ ghost use Rattle.encode.specs.Encoding.{form_as, form_of};
 
 use crate::Form;
 use crate::checks::{dm_clashes, is_mixed, memory_clashes, pm_clashes, same_dag, store_clashes};
-use items::{DataAccess, MemoryAccess, OptionalCompute};
+use items::{Compute, DataAccess, MemoryAccess};
 use refusals::Refusal;
 use registers::{IndexRegister, ModifyRegister, UniversalRegister};
 use signs::{fold, within};
 
 // The field of the compute beside a move.
-fn field_of(k: OptionalCompute) -> u32
+fn field_of(k: Option<Compute>) -> u32
     ensures { result ≡ field_of k }
 {
     match k {
-        OptionalCompute::Nothing => 0,
-        OptionalCompute::Held(held) => held.field,
+        None => 0,
+        Some(held) => held.field,
     }
 }
 
@@ -31,28 +31,28 @@ pub fn dm_modify(
     modifier: ModifyRegister,
     store: bool,
     post: bool,
-) -> Form
+) -> Result<Form, Refusal>
     ensures { result ≡ form_as (modify_layout register index modifier store post) }
 {
     let code = register.0;
     let i = index.0;
     let m = modifier.0;
     if 8 <= i {
-        return Form::Refused(Refusal::InvalidDmIndex(i));
+        return Err(Refusal::InvalidDmIndex(i));
     }
     if store_clashes(store, code) {
-        return Form::Refused(Refusal::Dag1StoreSource(code));
+        return Err(Refusal::Dag1StoreSource(code));
     }
     if 8 <= m {
-        return Form::Refused(Refusal::InvalidDmModifier(m));
+        return Err(Refusal::InvalidDmModifier(m));
     }
     if post {
         if 16 <= code {
-            return Form::Refused(Refusal::UnsupportedPostModifyRegister(code));
+            return Err(Refusal::UnsupportedPostModifyRegister(code));
         }
-        return Form::Short(words::post_word(code, i, m, store));
+        return Ok(Form::Short(words::post_word(code, i, m, store)));
     }
-    Form::Pair(words::pre_word(code, i, m, store))
+    Ok(Form::Pair(words::pre_word(code, i, m, store)))
 }
 
 // A DM access at an offset: 15b from -64 to 63, 15a at any other.
@@ -61,22 +61,22 @@ pub fn dm_offset(
     index: IndexRegister,
     offset: i32,
     store: bool,
-) -> Form
+) -> Result<Form, Refusal>
     ensures { result ≡ form_as (offset_layout register index offset store) }
 {
     let code = register.0;
     let i = index.0;
     let z = offset as i64;
     if 8 <= i {
-        return Form::Refused(Refusal::InvalidDmIndex(i));
+        return Err(Refusal::InvalidDmIndex(i));
     }
     if store_clashes(store, code) {
-        return Form::Refused(Refusal::Dag1StoreSource(code));
+        return Err(Refusal::Dag1StoreSource(code));
     }
     if within(-64, 63, z) {
-        return Form::Pair(words::near_word(code, i, fold(z, 0x80), store));
+        return Ok(Form::Pair(words::near_word(code, i, fold(z, 0x80), store)));
     }
-    Form::Word(words::far_word(code, i, fold(z, 0x1_0000_0000), store))
+    Ok(Form::Word(words::far_word(code, i, fold(z, 0x1_0000_0000), store)))
 }
 
 // The word that modifies an index by an offset.
@@ -89,7 +89,7 @@ pub fn modify_index(index: IndexRegister, offset: i32) -> u64
 
 // Two post-modify accesses beside a compute.
 #[tactic(auto, unfolding(crate::specs::Encoding::form_of, crate::specs::Layouts::layout_of))]
-pub fn dual_move(k: OptionalCompute, dm: DataAccess, pm: DataAccess) -> Form
+pub fn dual_move(k: Option<Compute>, dm: DataAccess, pm: DataAccess) -> Result<Form, Refusal>
     ensures { result ≡ form_of (DualMove k dm pm) }
 {
     let dmi = dm.index.0;
@@ -97,24 +97,24 @@ pub fn dual_move(k: OptionalCompute, dm: DataAccess, pm: DataAccess) -> Form
     let pmi = pm.index.0;
     let pmm = pm.modifier.0;
     if 8 <= dmi {
-        return Form::Refused(Refusal::InvalidDmIndex(dmi));
+        return Err(Refusal::InvalidDmIndex(dmi));
     }
     if 8 <= dmm {
-        return Form::Refused(Refusal::InvalidDmModifier(dmm));
+        return Err(Refusal::InvalidDmModifier(dmm));
     }
     if pmi < 8 {
-        return Form::Refused(Refusal::InvalidPmIndex(pmi));
+        return Err(Refusal::InvalidPmIndex(pmi));
     }
     if pmm < 8 {
-        return Form::Refused(Refusal::InvalidPmModifier(pmm));
+        return Err(Refusal::InvalidPmModifier(pmm));
     }
     if dm_clashes(k, dm) {
-        return Form::Refused(Refusal::DuplicateDestination(dm.register.0));
+        return Err(Refusal::DuplicateDestination(dm.register.0));
     }
     if pm_clashes(k, dm, pm) {
-        return Form::Refused(Refusal::DuplicateDestination(pm.register.0));
+        return Err(Refusal::DuplicateDestination(pm.register.0));
     }
-    Form::Word(dual_word(dm, pm, field_of(k)))
+    Ok(Form::Word(dual_word(dm, pm, field_of(k))))
 }
 
 // The word of a dual move whose registers are in order.
@@ -138,21 +138,21 @@ fn dual_word(dm: DataAccess, pm: DataAccess, field: u32) -> u64
 
 // One access beside a compute.
 #[tactic(auto, unfolding(crate::specs::Encoding::form_of, crate::specs::Layouts::layout_of))]
-pub fn memory_move(k: OptionalCompute, access: MemoryAccess) -> Form
+pub fn memory_move(k: Option<Compute>, access: MemoryAccess) -> Result<Form, Refusal>
     ensures { result ≡ form_of (MemoryMove k access) }
 {
     let i = access.index.0;
     let m = access.modifier.0;
     if is_mixed(i, m) {
-        return Form::Refused(Refusal::MixedDag(i, m));
+        return Err(Refusal::MixedDag(i, m));
     }
     if same_dag(access) {
-        return Form::Refused(Refusal::SameDagRegister(access.register.0));
+        return Err(Refusal::SameDagRegister(access.register.0));
     }
     if memory_clashes(k, access) {
-        return Form::Refused(Refusal::DuplicateDestination(access.register.0));
+        return Err(Refusal::DuplicateDestination(access.register.0));
     }
-    Form::Word(memory_word(access, field_of(k)))
+    Ok(Form::Word(memory_word(access, field_of(k))))
 }
 
 // The word of a memory move whose registers are in order.
@@ -174,13 +174,17 @@ fn memory_word(access: MemoryAccess, field: u32) -> u64
 
 // A store of a number through an index.
 #[tactic(auto, unfolding(crate::specs::Encoding::form_of, crate::specs::Layouts::layout_of))]
-pub fn store_immediate(index: IndexRegister, modifier: ModifyRegister, value: u32) -> Form
+pub fn store_immediate(
+    index: IndexRegister,
+    modifier: ModifyRegister,
+    value: u32,
+) -> Result<Form, Refusal>
     ensures { result ≡ form_of (StoreImmediate index modifier value) }
 {
     let i = index.0;
     let m = modifier.0;
     if is_mixed(i, m) {
-        return Form::Refused(Refusal::MixedDag(i, m));
+        return Err(Refusal::MixedDag(i, m));
     }
-    Form::Word(words::store_word(i % 8, m % 8, 8 <= i, value))
+    Ok(Form::Word(words::store_word(i % 8, m % 8, 8 <= i, value)))
 }

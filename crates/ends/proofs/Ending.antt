@@ -3,7 +3,7 @@ use Prim.Native.Nat.{ℕ, suc, ◌+◌, ◌-◌, ◌≤◌, ◌<◌}
 use native.Mathlib.Omega.{arith}
 use native.Mathlib.Numerals.{add-one}
 use mathlib.Core.Path.{◌≡◌, refl}
-use Rattle.coded.specs.declared.Coded.{Coded}
+use Rattle.coded.specs.Coded.{Coded}
 use Rattle.places.specs.Items.{about, size, place, nest}
 use Rattle.places.specs.Looking.{at, closer}
 use Rattle.prefixes.proofs.Traits.{one_way}

@@ -7,7 +7,7 @@ use mathlib.Core.Logic.{⊎_elim}
 use mathlib.Core.Bool.{Bool, false, ◌&&◌}
 use lib.Dec.{eqb}
 use borrow.Author.Tests.{eq-eqb, ne_eqb}
-use Rattle.coded.specs.declared.Coded.{Coded}
+use Rattle.coded.specs.Coded.{Coded}
 use Rattle.places.specs.Items.{about, nest}
 use Rattle.places.specs.Looking.{opener}
 use Rattle.prefixes.proofs.Tests.{and_second}

@@ -8,8 +8,8 @@ use mathlib.Core.Bool.{Bool, true, false, ◌&&◌}
 use lib.Dec.{eqb, ltb, leb}
 use borrow.Author.Tests.{eq-eqb, ne_eqb, eqb-true, lt-ltb, le-ltb, le-leb, lt-leb}
 use Rattle.refusals.specs.declared.Refusal.{Refusal}
-use Rattle.refusals.specs.declared.Verdict.TheVariants.{Good, Refused}
-use Rattle.coded.specs.declared.Coded.{Coded}
+use Rattle.std.specs.Prelude.{Ok, Err}
+use Rattle.coded.specs.Coded.{Coded}
 use Rattle.places.specs.Items.{about, is_end, is_short, size, is_entry, place, address, entries}
 use Rattle.places.specs.Looking.{Found, is_found, opener, sharer, is_in_tail, short_one}
 use Rattle.places.specs.Verdict.{when_found}
@@ -79,7 +79,7 @@ module _ (it : ℕ → Coded) (end : ℕ) where
   pub behind_start : {p : ℕ} → p ≡ place it end → Behind end p 0
   behind_start e = record { looked = looked-start narrow end; level = omega arith; here = e }
 
-  none_told : None narrow end → (r : ℕ → Refusal) → Good ≡ when_found (short_one it end) r
+  none_told : None narrow end → (r : ℕ → Refusal) → (Ok tt) ≡ when_found (short_one it end) r
   none_told n r = sym (ap (λ (f : Found). when_found f r) (newest-none narrow end n))
 
   module _ (start : ℕ) (is : start ≡ opener it end) {i p seen : ℕ} (b : Behind i p seen) where
@@ -89,7 +89,7 @@ module _ (it : ℕ → Coded) (end : ℕ) where
     pub behind_place : 0 < i → p - size (it (i - 1)) ≡ address it (i - 1)
     behind_place some = let u = place_up i some in omega (arith, b.here)
 
-    pub behind_found : start + 1 < i → seen < 11 → (about (it (i - 1))).short ≡ 1 → (r : ℕ → Refusal) → Refused (r (i - 1)) ≡ when_found (short_one it end) r
+    pub behind_found : start + 1 < i → seen < 11 → (about (it (i - 1))).short ≡ 1 → (r : ℕ → Refusal) → Err (r (i - 1)) ≡ when_found (short_one it end) r
     behind_found h s e r =
         let some : 0 < i = omega arith in
         let u = entry-up i some in
@@ -105,13 +105,13 @@ module _ (it : ℕ → Coded) (end : ℕ) where
         record { looked = looked-on narrow end some b.looked (rw (ne_eqb _ _ e) refl); level = omega (arith, b.level); here = omega (arith, b.here) }
 
     -- past the body, or past the last 11
-    pub behind_body : i ≤ start + 1 → (r : ℕ → Refusal) → Good ≡ when_found (short_one it end) r
+    pub behind_body : i ≤ start + 1 → (r : ℕ → Refusal) → (Ok tt) ≡ when_found (short_one it end) r
     behind_body h r =
         none_told
         (looked-none narrow end b.looked (λ q u. and_second (is_short (it q)) _ (rw (le-ltb (opener it end) q (omega (arith, is))) refl)))
         r
 
-    pub behind_tail : 11 ≤ seen → (r : ℕ → Refusal) → Good ≡ when_found (short_one it end) r
+    pub behind_tail : 11 ≤ seen → (r : ℕ → Refusal) → (Ok tt) ≡ when_found (short_one it end) r
     behind_tail h r =
         none_told
         (looked-none narrow end b.looked

@@ -5,26 +5,20 @@ use native.Mathlib.Nat.{eq-or-lt_of_le}
 use mathlib.Core.Path.{◌≡◌, refl, sym, ap, ◌∙◌, subst}
 use mathlib.Core.Logic.{⊎_elim}
 use mathlib.Core.Bool.{Bool, true, false}
-use mathlib.Core.List.{List, [], ◌∷◌}
 use lib.Dec.{eqb}
 use lib.IntN.{pos, ◌-ℤ◌, +ℤ-neg_ℤ_cancel}
 use borrow.Author.Tests.{eq-eqb, ne_eqb, eqb-true}
-use denote.Enum.Declared.{tag_of}
-use types.Run.{OneOf, miss}
 use Rattle.refusals.specs.declared.Refusal.{Refusal}
 use Rattle.refusals.specs.declared.Refusal.TheVariants.{EmptyLoop, UnmatchedLoopEnd, SharedLoopEnd, LoopTailNotFullWidth}
-use Rattle.refusals.specs.declared.Verdict.{Verdict}
-use Rattle.refusals.specs.declared.Verdict.TheVariants.{Good}
-use Rattle.refusals.specs.declared.Verdict.TheVariants as v
+use Rattle.std.specs.Prelude.{Ok, Err}
+use Rattle.refusals.specs.Answers.{Verdict}
+use Rattle.coded.specs.Coded.{Coded}
 use Rattle.refusals.specs.Order.{first}
 use Rattle.refusals.proofs.Order.{last_one}
 use Rattle.items.specs.declared.LoopCount.{LoopCount}
 use Rattle.items.specs.declared.LoopMode.{LoopMode}
-use Rattle.encode.specs.declared.Form.TheVariants.{Leaf}
 use Rattle.encode.specs.Encoding.{form_verdict, loop_form}
-use Rattle.coded.specs.contracts.Coded.{the_type}
-use Rattle.coded.specs.declared.Coded.{Coded}
-use Rattle.coded.specs.declared.Coded.TheVariants.{Instruction, Label, Jump, LoopBegin, LoopEnd, Refused}
+use Rattle.items.specs.declared.Item.TheVariants.{LoopBegin, LoopEnd}
 use Rattle.places.specs.declared.Rooms.{Rooms}
 use Rattle.places.specs.Items.{Kernel, about, is_entry, place, address, entries, nest}
 use Rattle.places.specs.Looking.{Found, at, nothing, is_found, last_at, opener, sharer, short_one}
@@ -65,11 +59,11 @@ module _ (it : ℕ → Coded) (end : ℕ) (start : ℕ) (before : start < end) (
             none_after = flat is_entry it (suc r.row) end r.before (λ q u v. no-entry it q (r.after q u v));
           })
 
-  pub word-is : {x : Coded} {c : LoopCount} {m : LoopMode} (offset : ℕ) → offset + place it start ≡ place it (last_row it end) → x ≡ it start → x ≡ LoopBegin c m
+  pub word-is : {x : Coded} {c : LoopCount} {m : LoopMode} (offset : ℕ) → offset + place it start ≡ place it (last_row it end) → x ≡ it start → x ≡ Ok (LoopBegin c m)
       → loop_form c m (pos offset -ℤ pos 0) ≡ loop_row it end start (it start)
   word-is {x} {c} {m} offset e r s =
       let o : pos offset -ℤ pos 0 ≡ pos offset = ap pos (let y : offset + 0 ≡ offset = omega arith in y) in
-      let w : it start ≡ LoopBegin c m = sym r ∙ s in
+      let w : it start ≡ (Ok (LoopBegin c m)) = sym r ∙ s in
       let z : pos offset ≡ loop_offset it end start =
       sym (+ℤ-neg_ℤ_cancel (pos offset) (pos (place it start))) ∙ ap (λ (y : ℕ). pos y -ℤ pos (place it start)) (e ∙ sym last.address_is) in
       ap (loop_form c m) (o ∙ z) ∙ ap (loop_row it end start) (sym w)
@@ -96,21 +90,6 @@ module _ (it : ℕ → Coded) (end : ℕ) (start : ℕ) (before : start < end) (
       omega arith)
       (eq-or-lt_of_le l.from))
 
--- where a match has passed a loop start by
-abbrev others : List ℕ
-others = 0 ∷ 1 ∷ 2 ∷ 4 ∷ 5 ∷ []
-
-pub no_start : (it : ℕ → Coded) (e i : ℕ) {x : Coded} → x ≡ it i → OneOf others (tag_of the_type x) → Leaf ≡ loop_row it e i (it i)
-no_start it e i {x} r h = go x h ∙ ap (loop_row it e i) r
-  where
-    go : (y : Coded) → OneOf others (tag_of the_type y) → Leaf ≡ loop_row it e i y
-    go (Instruction c) h = refl
-    go (Label a b) h = refl
-    go (Jump c a b) h = refl
-    go (LoopBegin c m) h = absurd (miss others 3 tt h)
-    go LoopEnd h = refl
-    go (Refused why) h = refl
-
 -- ---- the verdict on a loop end
 module _ (k : Kernel) (i : ℕ) (rooms : Rooms) where
   open k use {it}
@@ -118,30 +97,30 @@ module _ (k : Kernel) (i : ℕ) (rooms : Rooms) where
   abbrev tail : Verdict
   tail = when_found (short_one it i) (λ q. LoopTailNotFullWidth (address it q))
 
-  pub no_loop : nest it i ≡ 0 → v.Refused UnmatchedLoopEnd ≡ first (faults k rooms i LoopEnd)
+  pub no_loop : nest it i ≡ 0 → Err UnmatchedLoopEnd ≡ first (faults k rooms i (Ok LoopEnd))
   no_loop e = rw e refl
 
   module _ (some : 0 < nest it i) where
     inside : eqb (nest it i) 0 ≡ false
     inside = ne_eqb _ _ (λ (z : nest it i ≡ 0). omega arith)
 
-    pub no_body : last_row it i ≡ opener it i → v.Refused EmptyLoop ≡ first (faults k rooms i LoopEnd)
+    pub no_body : last_row it i ≡ opener it i → Err EmptyLoop ≡ first (faults k rooms i (Ok LoopEnd))
     no_body e = let o = (innermost it i some).open_at in rw (inside, empty-is it i (opener it i) o.before o.opens e) refl
 
     module _ (body : last_row it i ≡ opener it i → ⊥) where
       filled : eqb (entries it i) (entries it (opener it i) + 1) ≡ false
       filled = let o = (innermost it i some).open_at in not_empty it i (opener it i) o.before o.opens body
 
-      pub not_alone : is_found (sharer it i) ≡ true → v.Refused SharedLoopEnd ≡ first (faults k rooms i LoopEnd)
+      pub not_alone : is_found (sharer it i) ≡ true → Err SharedLoopEnd ≡ first (faults k rooms i (Ok LoopEnd))
       not_alone e = go (sharer it i) refl e
         where
-          go : (f : Found) → sharer it i ≡ f → is_found f ≡ true → v.Refused SharedLoopEnd ≡ first (faults k rooms i LoopEnd)
+          go : (f : Found) → sharer it i ≡ f → is_found f ≡ true → Err SharedLoopEnd ≡ first (faults k rooms i (Ok LoopEnd))
           go (at q) e h = rw (inside, filled, e) refl
           go nothing e h = absurd (true_false h refl)
 
       module _ (alone : is_found (sharer it i) ≡ false) where
-        pub too_short : {r : Refusal} → tail ≡ v.Refused r → v.Refused r ≡ first (faults k rooms i LoopEnd)
+        pub too_short : {r : Refusal} → tail ≡ Err r → Err r ≡ first (faults k rooms i (Ok LoopEnd))
         too_short e = rw (inside, filled, not_found (sharer it i) alone, e) refl
 
-        pub by_word : tail ≡ Good → form_verdict (loop_row it i (opener it i) (it (opener it i))) ≡ first (faults k rooms i LoopEnd)
+        pub by_word : tail ≡ Ok tt → form_verdict (loop_row it i (opener it i) (it (opener it i))) ≡ first (faults k rooms i (Ok LoopEnd))
         by_word e = rw (inside, filled, not_found (sharer it i) alone, e) (sym (last_one _))

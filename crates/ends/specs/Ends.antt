@@ -1,10 +1,10 @@
 -- An instrument of the builds' proofs: what a look over the rows leans on.
-use Rattle.std.specs.Prelude.{◌≡◌, List, ℕ, ◌≤◌, ◌<◌, eqb}
-use Rattle.refusals.specs.declared.Verdict.{Verdict}
+use Rattle.std.specs.Prelude.{◌≡◌, List, ℕ, ◌≤◌, ◌<◌, eqb, Ok}
+use Rattle.refusals.specs.Answers.{Verdict}
+use Rattle.coded.specs.Coded.{Coded}
 use Rattle.refusals.specs.Order.{first}
 use Rattle.rows.specs.Rows.{most_rows}
-use Rattle.coded.specs.declared.Coded.{Coded}
-use Rattle.coded.specs.declared.Coded.TheVariants.{LoopEnd}
+use Rattle.items.specs.declared.Item.TheVariants.{LoopEnd}
 use Rattle.places.specs.declared.Rooms.{Rooms}
 use Rattle.places.specs.Items.{Kernel, row_count, about, nest}
 use Rattle.places.specs.Looking.{latest}
@@ -32,4 +32,4 @@ pub record Starts (rows : List ℕ) (it : ℕ → Coded) (i : ℕ) : Type 0 wher
 
 -- the verdict on a loop end in row i, whatever the rooms
 abbrev pub EndsBy : Kernel → ℕ → Verdict → Type 0
-EndsBy k i v = (rooms : Rooms) → v ≡ first (faults k rooms i LoopEnd)
+EndsBy k i v = (rooms : Rooms) → v ≡ first (faults k rooms i (Ok LoopEnd))

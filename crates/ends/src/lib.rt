@@ -8,8 +8,8 @@ ghost use Rattle.places.specs.Looking.{at, is_found, opener, closer, sharer, sho
 ghost use Rattle.places.specs.Verdict.{when_found, loop_row};
 ghost use Rattle.ends.specs.Ends.{last_row, Rows, Closed, Starts, EndsBy};
 
-use coded::Coded;
 use encode::Form;
+use items::Item;
 use places::{LOOP_TAIL, Traits};
 use refusals::{Refusal, Verdict};
 use rows::ROW_WIDTH;
@@ -20,22 +20,16 @@ pub fn end_check(rows: &[u32], names: &[u8], i: usize, at: usize, depth: usize) 
     ensures { EndsBy (kernel_of rows.now names.now) i result }
 {
     if depth == 0 {
-        return Verdict::Refused(Refusal::UnmatchedLoopEnd);
+        return Err(Refusal::UnmatchedLoopEnd);
     }
     let start = start_of(rows, names, i);
     if last_instruction(rows, names, i) == start {
-        return Verdict::Refused(Refusal::EmptyLoop);
+        return Err(Refusal::EmptyLoop);
     }
     if shares_end(rows, names, i) {
-        return Verdict::Refused(Refusal::SharedLoopEnd);
+        return Err(Refusal::SharedLoopEnd);
     }
-    let tail = tail_check(rows, names, start, i, at);
-    match tail {
-        Verdict::Refused(r) => {
-            return Verdict::Refused(r);
-        }
-        Verdict::Good => {}
-    }
+    tail_check(rows, names, start, i, at)?;
     encode::form_verdict(loop_word(rows, names, start, i))
 }
 
@@ -46,9 +40,7 @@ pub fn start_of(rows: &[u32], names: &[u8], end: usize) -> usize
     ensures { result ≡ opener (row_at rows.now names.now) end }
 {
     let mut ended = 0;
-    let mut i = end;
-    while 0 < i {
-        i -= 1;
+    for i in (0..end).rev() {
         let item = mark(rows, names, i);
         ended += item.closes;
         if ended < item.opens {
@@ -64,9 +56,7 @@ fn last_instruction(rows: &[u32], names: &[u8], end: usize) -> usize
     requires { Rows rows.now end }
     ensures { result ≡ last_row (row_at rows.now names.now) end }
 {
-    let mut i = end;
-    while 0 < i {
-        i -= 1;
+    for i in (0..end).rev() {
         let item = mark(rows, names, i);
         if item.entry == 1 {
             return i;
@@ -80,9 +70,7 @@ fn shares_end(rows: &[u32], names: &[u8], end: usize) -> bool
     requires { Rows rows.now end }
     ensures { result ≡ is_found (sharer (row_at rows.now names.now) end) }
 {
-    let mut i = end;
-    while 0 < i {
-        i -= 1;
+    for i in (0..end).rev() {
         let item = mark(rows, names, i);
         if item.closes == 1 {
             return true;
@@ -102,30 +90,31 @@ fn tail_check(rows: &[u32], names: &[u8], start: usize, end: usize, at: usize) -
 {
     let mut place = at;
     let mut seen = 0;
-    let mut i = end;
-    while start + 1 < i && seen < LOOP_TAIL {
-        i -= 1;
+    for i in (start + 1..end).rev() {
+        if LOOP_TAIL <= seen {
+            break;
+        }
         let item = mark(rows, names, i);
         place -= item.size;
         if item.short == 1 {
-            return Verdict::Refused(Refusal::LoopTailNotFullWidth(place as u32));
+            return Err(Refusal::LoopTailNotFullWidth(place as u32));
         }
         seen += item.entry;
     }
-    Verdict::Good
+    Ok(())
 }
 
 // The word of the loop start in row `start`, whose loop ends in row `end`: its offset is the place of the last body instruction minus its
 // own.
-pub fn loop_word(rows: &[u32], names: &[u8], start: usize, end: usize) -> Form
+pub fn loop_word(rows: &[u32], names: &[u8], start: usize, end: usize) -> Result<Form, Refusal>
     requires { Rows rows.now end × (start < end) × ((about (row_at rows.now names.now start)).opens ≡ 1) × (place (row_at rows.now names.now) end ≤ most_parcels) }
     ensures { result ≡ loop_row (row_at rows.now names.now) end start (row_at rows.now names.now start) }
 {
     let last = last_instruction(rows, names, end);
     let offset = signs::apart(parcels_between(rows, names, start, last), 0);
     match coded::coded_at(rows, start, names.len()) {
-        Coded::LoopBegin { count, mode } => encode::loop_form(count, mode, offset),
-        _ => Form::Leaf,
+        Ok(Item::LoopBegin { count, mode }) => encode::loop_form(count, mode, offset),
+        _ => Ok(Form::Leaf),
     }
 }
 
@@ -135,11 +124,8 @@ fn parcels_between(rows: &[u32], names: &[u8], from: usize, to: usize) -> usize
     ensures { result + place (row_at rows.now names.now) from ≡ place (row_at rows.now names.now) to }
 {
     let mut parcels = 0;
-    let mut i = from;
-    while i < to {
-        let item = mark(rows, names, i);
-        parcels += item.size;
-        i += 1;
+    for i in from..to {
+        parcels += mark(rows, names, i).size;
     }
     parcels
 }
@@ -151,14 +137,12 @@ pub fn end_of(rows: &[u32], names: &[u8], start: usize) -> usize
 {
     let n = rows.len() / ROW_WIDTH;
     let mut depth = 1;
-    let mut i = start + 1;
-    while i < n {
+    for i in start + 1..n {
         let item = mark(rows, names, i);
         depth = depth + item.opens - item.closes;
         if depth == 0 {
             return i;
         }
-        i += 1;
     }
     n
 }

@@ -5,20 +5,17 @@ mod alone;
 mod print;
 mod stages;
 
-use reader::Reading;
+use reader::Reader;
 use std::io;
 
 fn main(rt: HostRuntime) -> io::Result<()> {
-    let mut rows = [0u32; 8704];
-    let mut names = [0u8; 2048];
     let mut buf = [0u8; 65536];
-    let reader = reader::input::read_all(&rt, &mut buf, &mut rows, &mut names);
-    let reading = reader.finish(&mut rows, &mut names);
-    match reading {
-        Reading::Unread(line) => {
-            print::number(&rt, "unread\t", line)?;
+    let mut reader: Reader = reader::input::read_all(&rt, &mut buf);
+    match reader.finish() {
+        Ok(read) => stages::all(&rt, read.rows, read.names),
+        Err(unread) => {
+            print::number(&rt, "unread\t", unread.line)?;
             print::end(&rt)
         }
-        Reading::Read(n, k) => stages::all(&rt, &rows[..n], &names[..k]),
     }
 }

@@ -9,10 +9,29 @@ use std::io;
 // What stands in a parcel before it is written.
 const UNWRITTEN: u16 = 0xffff;
 
+// What a build is lent: room for parcels, label entries and waiting jumps.
+#[derive(Drop)]
+struct Lent {
+    parcels: [u16; 3072],
+    labels: [u32; 1536],
+    jumps: [u32; 1024],
+}
+
+impl Lent {
+    // Nothing is written yet.
+    fn unwritten() -> Lent {
+        Lent {
+            parcels: [UNWRITTEN; 3072],
+            labels: [0; 1536],
+            jumps: [0; 1024],
+        }
+    }
+}
+
 // The label entries and waiting jumps of rows that take so much, and the end of the line.
 fn entries(rt: &HostRuntime, before: Before, labels: &[u32], jumps: &[u32]) -> io::Result<()> {
-    let n = LABEL_WIDTH * print::least(before.labels, 512);
-    let m = JUMP_WIDTH * print::least(before.jumps, 512);
+    let n = LABEL_WIDTH * before.labels.min(512);
+    let m = JUMP_WIDTH * before.jumps.min(512);
     print::numbers(rt, "\tlabels", labels, n)?;
     print::numbers(rt, "\tjumps", jumps, m)?;
     print::end(rt)
@@ -51,12 +70,16 @@ fn placed(rt: &HostRuntime, rows: &[u32], names: &[u8], i: usize) -> io::Result<
 
 // What the quick engine has written once these i rows are taken, of so many parcels.
 fn taken(rt: &HostRuntime, rows: &[u32], names: &[u8], i: usize, count: usize) -> io::Result<()> {
-    let mut parcels = [UNWRITTEN; 3072];
-    let mut labels = [0u32; 1536];
-    let mut jumps = [0u32; 1024];
-    alone::taken(rows, names, &mut parcels, &mut labels, &mut jumps);
+    let mut lent = Lent::unwritten();
+    alone::taken(
+        rows,
+        names,
+        &mut lent.parcels,
+        &mut lent.labels,
+        &mut lent.jumps,
+    );
     print::number(rt, "taken\t", i)?;
-    print::parcels(rt, &parcels, count)?;
+    print::parcels(rt, &lent.parcels, count)?;
     print::end(rt)
 }
 
@@ -69,11 +92,8 @@ fn stage(rt: &HostRuntime, rows: &[u32], names: &[u8], i: usize, count: usize) -
 // Both row by row.
 fn each(rt: &HostRuntime, rows: &[u32], names: &[u8], count: usize) -> io::Result<()> {
     let n = rows.len() / ROW_WIDTH;
-    let mut i = 0;
-    while i <= n {
-        let end = ROW_WIDTH * i;
-        stage(rt, &rows[..end], names, i, count)?;
-        i += 1;
+    for i in 0..=n {
+        stage(rt, &rows[..ROW_WIDTH * i], names, i, count)?;
     }
     Ok(())
 }
@@ -84,44 +104,38 @@ fn answer(
     engine: &str,
     told: Told,
     before: Before,
-    parcels: &[u16],
-    labels: &[u32],
-    jumps: &[u32],
+    lent: &Lent,
 ) -> io::Result<()> {
     print::number(rt, engine, told.number as usize)?;
     print::number(rt, "\t", told.count as usize)?;
-    print::parcels(rt, parcels, before.place)?;
-    entries(rt, before, labels, jumps)
+    print::parcels(rt, &lent.parcels, before.place)?;
+    entries(rt, before, &lent.labels, &lent.jumps)
 }
 
 // The quick engine's answer.
 fn quick(rt: &HostRuntime, rows: &[u32], names: &[u8], before: Before) -> io::Result<()> {
-    let mut parcels = [UNWRITTEN; 3072];
-    let mut labels = [0u32; 1536];
-    let mut jumps = [0u32; 1024];
+    let mut lent = Lent::unwritten();
     let told = refusals::answered(build::build_alone(
         rows,
         names,
-        &mut parcels,
-        &mut labels,
-        &mut jumps,
+        &mut lent.parcels,
+        &mut lent.labels,
+        &mut lent.jumps,
     ));
-    answer(rt, "quick\t", told, before, &parcels, &labels, &jumps)
+    answer(rt, "quick\t", told, before, &lent)
 }
 
-// The plain engine's answer.
+// The plain engine's answer. (Beside the quick one's: they differ in the call alone, which a closure would not make shorter.)
 fn plainly(rt: &HostRuntime, rows: &[u32], names: &[u8], before: Before) -> io::Result<()> {
-    let mut parcels = [UNWRITTEN; 3072];
-    let mut labels = [0u32; 1536];
-    let mut jumps = [0u32; 1024];
+    let mut lent = Lent::unwritten();
     let told = refusals::answered(alone::built_plain(
         rows,
         names,
-        &mut parcels,
-        &mut labels,
-        &mut jumps,
+        &mut lent.parcels,
+        &mut lent.labels,
+        &mut lent.jumps,
     ));
-    answer(rt, "plain\t", told, before, &parcels, &labels, &jumps)
+    answer(rt, "plain\t", told, before, &lent)
 }
 
 // All stages, and the answers.

@@ -7,10 +7,8 @@ use Rattle.fields.specs.Pack.{Field, fixed, operand, pack, Tiles, Fits}
 use Rattle.fields.specs.Parcels.{cut}
 use Rattle.fields.specs.Faithful.{Faithful, Spells}
 use Rattle.fields.proofs.Packed.{faithful, spells}
-use Rattle.refusals.specs.declared.Verdict.TheVariants.{Good}
+use Rattle.std.specs.Prelude.{Ok, Some, None, Option}
 use Rattle.items.specs.declared.Compute.{Compute}
-use Rattle.items.specs.declared.OptionalCompute.{OptionalCompute}
-use Rattle.items.specs.declared.OptionalCompute.TheVariants.{Nothing, Held}
 use Rattle.items.specs.declared.DataAccess.{DataAccess}
 use Rattle.items.specs.declared.MemoryAccess.{MemoryAccess}
 use Rattle.items.specs.declared.VisaInstruction.{VisaInstruction}
@@ -44,24 +42,24 @@ opened xs fs n ps o f e =
     (faithful 48 (xs ++ fs) (opened-tiles 48 xs fs n f.tiles o.1.tiles) (opened-fits xs fs n f.fits o.1.fits))
 
 -- ---- the kinds without a compute, and the three with one
-pub plain-spells : (v : VisaInstruction) → Ranged v → verdict_of v ≡ Good → Spells (parcels_of v) (layout_of v).parcels (layout_of v).fields
+pub plain-spells : (v : VisaInstruction) → Ranged v → verdict_of v ≡ Ok tt → Spells (parcels_of v) (layout_of v).parcels (layout_of v).fields
 plain-spells v h g = spells (parcels_of v) (layout_of v).parcels (layout_of v).fields (laid-parcels v g) (instruction-faithful v h g)
 
 field-small : (n : ℕ) (fs : List Field) → Opens n fs → n < 2 ^ 23
 field-small n fs o = rw o.0 o.1.within
 
-compute-ranged : (k : OptionalCompute) (fs : List Field) → Opens (field_of k) fs → RangedCompute k
-compute-ranged Nothing fs o = tt
-compute-ranged (Held k) fs o = field-small k.field fs o
+compute-ranged : (k : Option Compute) (fs : List Field) → Opens (field_of k) fs → RangedCompute k
+compute-ranged None fs o = tt
+compute-ranged (Some k) fs o = field-small k.field fs o
 
 module _ (fs : List Field) where
-  pub compute-spells : (k : Compute) → Opens k.field fs → verdict_of (Visa.Compute k) ≡ Good → Spells (parcels_of (Visa.Compute k)) (layout_of (Visa.Compute k)).parcels (type2a fs)
+  pub compute-spells : (k : Compute) → Opens k.field fs → verdict_of (Visa.Compute k) ≡ Ok tt → Spells (parcels_of (Visa.Compute k)) (layout_of (Visa.Compute k)).parcels (type2a fs)
   unfolding layout_of
   compute-spells k o g =
       opened (type2a []) fs k.field (parcels_of (Visa.Compute k)) o (instruction-faithful (Visa.Compute k) (field-small k.field fs o) g) (laid-parcels (Visa.Compute k) g)
 
   pub dual_spells :
-      (k : OptionalCompute) (dm pm : DataAccess) → Opens (field_of k) fs → RangedData dm → RangedData pm → verdict_of (Visa.DualMove k dm pm) ≡ Good →
+      (k : Option Compute) (dm pm : DataAccess) → Opens (field_of k) fs → RangedData dm → RangedData pm → verdict_of (Visa.DualMove k dm pm) ≡ Ok tt →
       Spells (parcels_of (Visa.DualMove k dm pm)) (layout_of (Visa.DualMove k dm pm)).parcels (dual_fields dm pm fs)
   unfolding layout_of
   dual_spells k dm pm o a b g =
@@ -69,7 +67,7 @@ module _ (fs : List Field) where
       opened (dual_fields dm pm []) fs (field_of k) (parcels_of v) o (instruction-faithful v (compute-ranged k fs o, a, b) g) (laid-parcels v g)
 
   pub memory-spells :
-      (k : OptionalCompute) (access : MemoryAccess) → Opens (field_of k) fs → RangedMemory access → verdict_of (Visa.MemoryMove k access) ≡ Good →
+      (k : Option Compute) (access : MemoryAccess) → Opens (field_of k) fs → RangedMemory access → verdict_of (Visa.MemoryMove k access) ≡ Ok tt →
       Spells (parcels_of (Visa.MemoryMove k access)) (layout_of (Visa.MemoryMove k access)).parcels (memory_fields access fs)
   unfolding layout_of
   memory-spells k access o a g =

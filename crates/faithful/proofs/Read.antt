@@ -6,8 +6,11 @@ use mathlib.Core.Bool.{Bool, true, false, cond}
 use mathlib.Core.List.{List, [], ◌∷◌}
 use lib.Dec.{eqb}
 use borrow.Author.Tests.{eqb-true, eqb-false}
-use Rattle.refusals.specs.declared.Verdict.{Verdict}
-use Rattle.refusals.specs.declared.Verdict.TheVariants.{Good, Refused}
+use Rattle.std.specs.Prelude.{Ok, Err, Result, Option}
+use Rattle.refusals.specs.Answers.{Verdict}
+use Rattle.items.specs.declared.Item.{Item}
+use Rattle.items.specs.declared.Compute.{Compute}
+use Rattle.refusals.specs.declared.Refusal.{Refusal}
 use Rattle.items.specs.declared.VisaInstruction.{VisaInstruction}
 use Rattle.items.specs.declared.DataAccess.{DataAccess}
 use Rattle.items.specs.declared.MemoryAccess.{MemoryAccess}
@@ -15,18 +18,11 @@ use Rattle.items.specs.declared.Condition.{Condition}
 use Rattle.items.specs.declared.LoopCount.{LoopCount}
 use Rattle.items.specs.declared.LoopCount.TheVariants as count
 use Rattle.items.specs.declared.LoopMode.{LoopMode}
-use Rattle.items.specs.declared.Item.{Item}
 use Rattle.items.specs.declared.Item.TheVariants as item
-use Rattle.computes.specs.declared.Made.{Made}
-use Rattle.computes.specs.declared.Made.TheVariants as made
 use Rattle.computes.proofs.Ranged.{RangedCount}
 use Rattle.bounds.specs.Tables.{lookup}
 use Rattle.bounds.specs.Bounds.{never, filled, fields, bounds_of}
 use Rattle.bounds.specs.Checks.{check_of}
-use Rattle.rows.specs.declared.Beside.{Beside}
-use Rattle.rows.specs.declared.Beside.TheVariants as beside
-use Rattle.rows.specs.declared.Read.{Read}
-use Rattle.rows.specs.declared.Read.TheVariants as read
 use Rattle.rows.specs.Fields.{instruction_of, count_of, code}
 use Rattle.rows.specs.Rows.{item_of, after, read_of, compute_item, dual_item, memory_item, compute_of, beside_of, dm_of, pm_of, access_of}
 use Rattle.rows.specs.Kept.{Below}
@@ -34,9 +30,9 @@ use Rattle.rows.proofs.Kept.{within-bounds}
 use Rattle.faithful.proofs.Lines.{◌&◌, Inside}
 
 -- a row that is read is within its bounds
-pub read-good : (c : Verdict) (r : Read) (i : Item) → after c r ≡ read.Item i → (c ≡ Good) × (r ≡ read.Item i)
-read-good Good r i e = (refl, e)
-read-good (Refused x) r i e = let z : ◌≡◌ {A = ℕ} 0 1 = cc in absurd (omega arith)
+pub read-good : (c : Verdict) (r : Result (Item VisaInstruction) Refusal) (i : Item VisaInstruction) → after c r ≡ Ok i → (c ≡ Ok tt) × (r ≡ Ok i)
+read-good (Ok _) r i e = (refl, e)
+read-good (Err x) r i e = let z : ◌≡◌ {A = ℕ} 0 1 = cc in absurd (omega arith)
 
 -- the first three places of a line
 front : (l vs : List ℕ) (a b c : ℕ) → Below (filled 16 l) (a ∷ b ∷ c ∷ vs) → Below (filled 3 l) (a ∷ b ∷ c ∷ [])
@@ -46,17 +42,17 @@ front (x ∷ y ∷ []) vs a b c h = h.0 & h.1.0 & h.1.1.0 & tt
 front (x ∷ y ∷ z ∷ l) vs a b c h = h.0 & h.1.0 & h.1.1.0 & tt
 
 -- which line of the table of items a row takes that is read as an instruction
-pub data Which (k : ℕ) (v plain : VisaInstruction) (compute dual memory : Read) : Type 0 where
+pub data Which (k : ℕ) (v plain : VisaInstruction) (compute dual memory : Result (Item VisaInstruction) Refusal) : Type 0 where
   is_plain : eqb k 32 ≡ false → eqb k 33 ≡ false → eqb k 34 ≡ false → eqb k 50 ≡ false → v ≡ plain → Which k v plain compute dual memory
-  is-compute : k ≡ 32 → compute ≡ read.Item (item.Instruction v) → Which k v plain compute dual memory
-  is_dual : k ≡ 33 → dual ≡ read.Item (item.Instruction v) → Which k v plain compute dual memory
-  is-memory : k ≡ 34 → memory ≡ read.Item (item.Instruction v) → Which k v plain compute dual memory
+  is-compute : k ≡ 32 → compute ≡ Ok (item.Instruction v) → Which k v plain compute dual memory
+  is_dual : k ≡ 33 → dual ≡ Ok (item.Instruction v) → Which k v plain compute dual memory
+  is-memory : k ≡ 34 → memory ≡ Ok (item.Instruction v) → Which k v plain compute dual memory
 
-module _ (k : ℕ) (v plain : VisaInstruction) (compute dual memory : Read) (x y s m : ℕ) (condition : Condition) (count : LoopCount) (mode : LoopMode) where
+module _ (k : ℕ) (v plain : VisaInstruction) (compute dual memory : Result (Item VisaInstruction) Refusal) (x y s m : ℕ) (condition : Condition) (count : LoopCount) (mode : LoopMode) where
   which :
       (t32 t33 t34 t48 t49 t50 t51 : Bool) → eqb k 32 ≡ t32 → eqb k 33 ≡ t33 → eqb k 34 ≡ t34 → eqb k 50 ≡ t50 →
-      cond t32 compute (cond t33 dual (cond t34 memory (cond t48 (read.Item (item.Label x y)) (cond t49 (read.Item (item.Jump condition s m))
-      (cond t50 (read.Item (item.LoopBegin count mode)) (cond t51 (read.Item item.LoopEnd) (read.Item (item.Instruction plain)))))))) ≡ read.Item (item.Instruction v) →
+      cond t32 compute (cond t33 dual (cond t34 memory (cond t48 (Ok (item.Label x y)) (cond t49 (Ok (item.Jump condition s m))
+      (cond t50 (Ok (item.LoopBegin count mode)) (cond t51 (Ok item.LoopEnd) (Ok (item.Instruction plain)))))))) ≡ Ok (item.Instruction v) →
       Which k v plain compute dual memory
   which true t33 t34 t48 t49 t50 t51 a b c d e = is-compute (eqb-true k 32 a) e
   which false true t34 t48 t49 t50 t51 a b c d e = is_dual (eqb-true k 33 b) e
@@ -74,7 +70,7 @@ pub record Known (k a b c : ℕ) (vs : List ℕ) (v : VisaInstruction) : Type 0 
       (dual_item (dm_of (k ∷ a ∷ b ∷ c ∷ vs)) (pm_of (k ∷ a ∷ b ∷ c ∷ vs)) (beside_of (k ∷ a ∷ b ∷ c ∷ vs)))
       (memory_item (access_of (k ∷ a ∷ b ∷ c ∷ vs)) (beside_of (k ∷ a ∷ b ∷ c ∷ vs)))
 
-pub known : (k a b c : ℕ) (vs : List ℕ) (names : ℕ) (v : VisaInstruction) → read_of (k ∷ a ∷ b ∷ c ∷ vs) names ≡ read.Item (item.Instruction v) → Known k a b c vs v
+pub known : (k a b c : ℕ) (vs : List ℕ) (names : ℕ) (v : VisaInstruction) → read_of (k ∷ a ∷ b ∷ c ∷ vs) names ≡ Ok (item.Instruction v) → Known k a b c vs v
 unfolding read_of item_of
 known k a b c vs names v e =
     let row = k ∷ a ∷ b ∷ c ∷ vs in
@@ -93,24 +89,24 @@ module _ (k a b c : ℕ) (vs : List ℕ) (h32 : eqb k 32 ≡ false) (h33 : eqb k
   inside h = front (lookup k fields (never ∷ [])) vs a b c (line-bounds h)
 
 -- ---- a loop start
-no-compute : (m : Made) (c : LoopCount) (o : LoopMode) → compute_item m ≡ read.Item (item.LoopBegin c o) → ⊥
-no-compute (made.Made x) c o e = let z : ◌≡◌ {A = ℕ} 0 1 = cc in omega arith
-no-compute (made.Refused r) c o e = let z : ◌≡◌ {A = ℕ} 0 1 = cc in omega arith
+no-compute : (m : Result Compute Refusal) (c : LoopCount) (o : LoopMode) → compute_item m ≡ Ok (item.LoopBegin c o) → ⊥
+no-compute (Ok x) c o e = let z : ◌≡◌ {A = ℕ} 0 1 = cc in omega arith
+no-compute (Err r) c o e = let z : ◌≡◌ {A = ℕ} 0 1 = cc in omega arith
 
-no_dual : (dm pm : DataAccess) (b : Beside) (c : LoopCount) (o : LoopMode) → dual_item dm pm b ≡ read.Item (item.LoopBegin c o) → ⊥
-no_dual dm pm (beside.Compute x) c o e = let z : ◌≡◌ {A = ℕ} 0 1 = cc in omega arith
-no_dual dm pm (beside.Refused r) c o e = let z : ◌≡◌ {A = ℕ} 0 1 = cc in omega arith
+no_dual : (dm pm : DataAccess) (b : Result (Option Compute) Refusal) (c : LoopCount) (o : LoopMode) → dual_item dm pm b ≡ Ok (item.LoopBegin c o) → ⊥
+no_dual dm pm (Ok x) c o e = let z : ◌≡◌ {A = ℕ} 0 1 = cc in omega arith
+no_dual dm pm (Err r) c o e = let z : ◌≡◌ {A = ℕ} 0 1 = cc in omega arith
 
-no-memory : (access : MemoryAccess) (b : Beside) (c : LoopCount) (o : LoopMode) → memory_item access b ≡ read.Item (item.LoopBegin c o) → ⊥
-no-memory access (beside.Compute x) c o e = let z : ◌≡◌ {A = ℕ} 0 1 = cc in omega arith
-no-memory access (beside.Refused r) c o e = let z : ◌≡◌ {A = ℕ} 0 1 = cc in omega arith
+no-memory : (access : MemoryAccess) (b : Result (Option Compute) Refusal) (c : LoopCount) (o : LoopMode) → memory_item access b ≡ Ok (item.LoopBegin c o) → ⊥
+no-memory access (Ok x) c o e = let z : ◌≡◌ {A = ℕ} 0 1 = cc in omega arith
+no-memory access (Err r) c o e = let z : ◌≡◌ {A = ℕ} 0 1 = cc in omega arith
 
 module _ (row : List ℕ) (c : LoopCount) (o : LoopMode) (plain : VisaInstruction) (x y s m : ℕ) (condition : Condition) (count : LoopCount) (mode : LoopMode) where
   loop-item :
       (t32 t33 t34 t48 t49 t50 t51 : Bool) →
       cond t32 (compute_item (compute_of row)) (cond t33 (dual_item (dm_of row) (pm_of row) (beside_of row)) (cond t34 (memory_item (access_of row) (beside_of row))
-      (cond t48 (read.Item (item.Label x y)) (cond t49 (read.Item (item.Jump condition s m))
-      (cond t50 (read.Item (item.LoopBegin count mode)) (cond t51 (read.Item item.LoopEnd) (read.Item (item.Instruction plain)))))))) ≡ read.Item (item.LoopBegin c o) →
+      (cond t48 (Ok (item.Label x y)) (cond t49 (Ok (item.Jump condition s m))
+      (cond t50 (Ok (item.LoopBegin count mode)) (cond t51 (Ok item.LoopEnd) (Ok (item.Instruction plain)))))))) ≡ Ok (item.LoopBegin c o) →
       (t32 ≡ false) × (t33 ≡ false) × (t34 ≡ false) × (t50 ≡ true) × (c ≡ count)
   loop-item true t33 t34 t48 t49 t50 t51 e = absurd (no-compute (compute_of row) c o e)
   loop-item false true t34 t48 t49 t50 t51 e = absurd (no_dual (dm_of row) (pm_of row) (beside_of row) c o e)
@@ -130,7 +126,7 @@ counted a b false false e f h g =
     let q = eqb-false a 1 f in
     absurd (omega arith)
 
-pub loop-ranged : (k a b d : ℕ) (vs : List ℕ) (names : ℕ) (c : LoopCount) (o : LoopMode) → read_of (k ∷ a ∷ b ∷ d ∷ vs) names ≡ read.Item (item.LoopBegin c o) → RangedCount c
+pub loop-ranged : (k a b d : ℕ) (vs : List ℕ) (names : ℕ) (c : LoopCount) (o : LoopMode) → read_of (k ∷ a ∷ b ∷ d ∷ vs) names ≡ Ok (item.LoopBegin c o) → RangedCount c
 unfolding read_of item_of bounds_of count_of
 loop-ranged k a b d vs names c o e =
     let row = k ∷ a ∷ b ∷ d ∷ vs in

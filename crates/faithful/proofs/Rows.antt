@@ -10,9 +10,9 @@ use Rattle.fields.specs.Pack.{field, pack}
 use Rattle.fields.specs.Faithful.{Spells}
 use Rattle.fields.proofs.Packed.{spells}
 use Rattle.signs.specs.Signs.{signed_in}
-use Rattle.refusals.specs.declared.Verdict.TheVariants.{Good}
+use Rattle.std.specs.Prelude.{Ok, Err, Option, Result}
+use Rattle.refusals.specs.declared.Refusal.{Refusal}
 use Rattle.items.specs.declared.Compute.{Compute}
-use Rattle.items.specs.declared.OptionalCompute.{OptionalCompute}
 use Rattle.items.specs.declared.DataAccess.{DataAccess}
 use Rattle.items.specs.declared.MemoryAccess.{MemoryAccess}
 use Rattle.items.specs.declared.LoopCount.{LoopCount}
@@ -20,8 +20,6 @@ use Rattle.items.specs.declared.LoopMode.{LoopMode}
 use Rattle.items.specs.declared.VisaInstruction.{VisaInstruction}
 use Rattle.items.specs.declared.VisaInstruction.TheVariants as Visa
 use Rattle.items.specs.declared.Item.TheVariants as item
-use Rattle.computes.specs.declared.Made.{Made}
-use Rattle.computes.specs.declared.Made.TheVariants as made
 use Rattle.computes.proofs.Ranged.{RangedData, RangedMemory, RangedCount}
 use Rattle.encode.specs.Layouts.{layout_of, jump_layout, loop_layout}
 use Rattle.encode.specs.Encoding.{verdict_of, parcels_of, jump_form, loop_form, form_parcels}
@@ -29,9 +27,6 @@ use Rattle.encode.proofs.Carried.{jump-faithful, loop-faithful, jump-is, loop-is
 use Rattle.bounds.specs.Tables.{at}
 use Rattle.bounds.specs.Bounds.{spare, never, form, filled, compute, data_access, memory_access, bounds_of}
 use Rattle.bounds.proofs.Filled.{front-compute, back-compute}
-use Rattle.rows.specs.declared.Beside.{Beside}
-use Rattle.rows.specs.declared.Beside.TheVariants as beside
-use Rattle.rows.specs.declared.Read.TheVariants as read
 use Rattle.rows.specs.Fields.{instruction_of}
 use Rattle.rows.specs.Rows.{read_of, compute_item, dual_item, memory_item, compute_of, beside_of, data_access_of, memory_access_of, dm_of, pm_of, access_of}
 use Rattle.rows.specs.Kept.{Below}
@@ -59,17 +54,17 @@ below-drop (suc n) (b ∷ bs) [] h = none (drop n bs)
 below-drop (suc n) (b ∷ bs) (v ∷ vs) h = below-drop n bs vs h.1
 
 -- ---- the items of a compute
-pub made-is : (m : Made) (v : VisaInstruction) → compute_item m ≡ read.Item (item.Instruction v) → (x : Compute) × (m ≡ made.Made x) × (v ≡ Visa.Compute x)
-made-is (made.Made x) v e = (x, refl, let y : v ≡ Visa.Compute x = cc in y)
-made-is (made.Refused r) v e = let z : ◌≡◌ {A = ℕ} 0 1 = cc in absurd (omega arith)
+pub made-is : (m : Result Compute Refusal) (v : VisaInstruction) → compute_item m ≡ Ok (item.Instruction v) → (x : Compute) × (m ≡ Ok x) × (v ≡ Visa.Compute x)
+made-is (Ok x) v e = (x, refl, let y : v ≡ Visa.Compute x = cc in y)
+made-is (Err r) v e = let z : ◌≡◌ {A = ℕ} 0 1 = cc in absurd (omega arith)
 
-pub dual_is : (dm pm : DataAccess) (b : Beside) (v : VisaInstruction) → dual_item dm pm b ≡ read.Item (item.Instruction v) → (o : OptionalCompute) × (b ≡ beside.Compute o) × (v ≡ Visa.DualMove o dm pm)
-dual_is dm pm (beside.Compute o) v e = (o, refl, let y : v ≡ Visa.DualMove o dm pm = cc in y)
-dual_is dm pm (beside.Refused r) v e = let z : ◌≡◌ {A = ℕ} 0 1 = cc in absurd (omega arith)
+pub dual_is : (dm pm : DataAccess) (b : Result (Option Compute) Refusal) (v : VisaInstruction) → dual_item dm pm b ≡ Ok (item.Instruction v) → (o : Option Compute) × (b ≡ Ok o) × (v ≡ Visa.DualMove o dm pm)
+dual_is dm pm (Ok o) v e = (o, refl, let y : v ≡ Visa.DualMove o dm pm = cc in y)
+dual_is dm pm (Err r) v e = let z : ◌≡◌ {A = ℕ} 0 1 = cc in absurd (omega arith)
 
-pub memory-is : (access : MemoryAccess) (b : Beside) (v : VisaInstruction) → memory_item access b ≡ read.Item (item.Instruction v) → (o : OptionalCompute) × (b ≡ beside.Compute o) × (v ≡ Visa.MemoryMove o access)
-memory-is access (beside.Compute o) v e = (o, refl, let y : v ≡ Visa.MemoryMove o access = cc in y)
-memory-is access (beside.Refused r) v e = let z : ◌≡◌ {A = ℕ} 0 1 = cc in absurd (omega arith)
+pub memory-is : (access : MemoryAccess) (b : Result (Option Compute) Refusal) (v : VisaInstruction) → memory_item access b ≡ Ok (item.Instruction v) → (o : Option Compute) × (b ≡ Ok o) × (v ≡ Visa.MemoryMove o access)
+memory-is access (Ok o) v e = (o, refl, let y : v ≡ Visa.MemoryMove o access = cc in y)
+memory-is access (Err r) v e = let z : ◌≡◌ {A = ℕ} 0 1 = cc in absurd (omega arith)
 
 pub data_ranged : (a b c d : ℕ) → b < 16 → c < 16 → d < 16 → RangedData (data_access_of a b c d)
 unfolding data_access_of
@@ -85,7 +80,7 @@ Row row v = Spells (parcels_of v) (layout_of v).parcels (row_fields row v)
 
 plain_row :
     (k a b c : ℕ) (vs : List ℕ) (v : VisaInstruction) → eqb k 32 ≡ false → eqb k 33 ≡ false → eqb k 34 ≡ false → eqb k 50 ≡ false →
-    v ≡ instruction_of k a b c → Below (bounds_of (k ∷ a ∷ b ∷ c ∷ vs)) (a ∷ b ∷ c ∷ vs) → verdict_of v ≡ Good → Row (k ∷ a ∷ b ∷ c ∷ vs) v
+    v ≡ instruction_of k a b c → Below (bounds_of (k ∷ a ∷ b ∷ c ∷ vs)) (a ∷ b ∷ c ∷ vs) → verdict_of v ≡ Ok tt → Row (k ∷ a ∷ b ∷ c ∷ vs) v
 unfolding row_fields
 plain_row k a b c vs v h32 h33 h34 h50 e h g =
     rw (h32, h33, h34) (plain-spells v (rw e (ranged k a b c (inside k a b c vs h32 h33 h34 h50 h))) g)
@@ -108,7 +103,7 @@ module _ (a b c d e f g h p q r s t u x y : ℕ) (v : VisaInstruction) where
       go true s x = let y : a < 0 = (rw s at x).0 in absurd (omega arith)
       go false s x = refl
 
-  compute-row : Below (bounds_of (row 32)) after → compute_item (compute_of (row 32)) ≡ read.Item (item.Instruction v) → verdict_of v ≡ Good → Row (row 32) v
+  compute-row : Below (bounds_of (row 32)) after → compute_item (compute_of (row 32)) ≡ Ok (item.Instruction v) → verdict_of v ≡ Ok tt → Row (row 32) v
   unfolding bounds_of row_fields
   compute-row w i good =
       let m = made-is (compute_of (row 32)) v i in
@@ -125,7 +120,7 @@ module _ (a b c d e f g h p q r s t u x y : ℕ) (v : VisaInstruction) where
     back8 = rw (back-compute form (row k) l) at (below-drop 8 (take 16 (compute form (row k) ++ (l ++ replicate 16 spare))) after w)
 
   dual_row :
-      Below (bounds_of (row 33)) after → dual_item (dm_of (row 33)) (pm_of (row 33)) (beside_of (row 33)) ≡ read.Item (item.Instruction v) → verdict_of v ≡ Good → Row (row 33) v
+      Below (bounds_of (row 33)) after → dual_item (dm_of (row 33)) (pm_of (row 33)) (beside_of (row 33)) ≡ Ok (item.Instruction v) → verdict_of v ≡ Ok tt → Row (row 33) v
   unfolding bounds_of row_fields
   dual_row w i good =
       let m = dual_is (dm_of (row 33)) (pm_of (row 33)) (beside_of (row 33)) v i in
@@ -138,7 +133,7 @@ module _ (a b c d e f g h p q r s t u x y : ℕ) (v : VisaInstruction) where
       (rw m.2 at good))
 
   memory-row :
-      Below (bounds_of (row 34)) after → memory_item (access_of (row 34)) (beside_of (row 34)) ≡ read.Item (item.Instruction v) → verdict_of v ≡ Good → Row (row 34) v
+      Below (bounds_of (row 34)) after → memory_item (access_of (row 34)) (beside_of (row 34)) ≡ Ok (item.Instruction v) → verdict_of v ≡ Ok tt → Row (row 34) v
   unfolding bounds_of row_fields
   memory-row w i good =
       let m = memory-is (access_of (row 34)) (beside_of (row 34)) v i in
@@ -148,7 +143,7 @@ module _ (a b c d e f g h p q r s t u x y : ℕ) (v : VisaInstruction) where
       rw m.2
       (memory-spells (compute_fields (row 34)) m.0 (access_of (row 34)) o (memory-ranged p q r s t z.1.0 z.1.1.0 z.1.1.1.0) (rw m.2 at good))
 
-  row-spells : (k names : ℕ) → read_of (row k) names ≡ read.Item (item.Instruction v) → verdict_of v ≡ Good → Row (row k) v
+  row-spells : (k names : ℕ) → read_of (row k) names ≡ Ok (item.Instruction v) → verdict_of v ≡ Ok tt → Row (row k) v
   row-spells k names i good =
       let n = known k a b c (d ∷ e ∷ f ∷ g ∷ h ∷ qs) names v i in
       go n.bounds n.kind
@@ -177,12 +172,12 @@ spread_same (suc n) (x ∷ l) e = ap (λ (r : List ℕ). x ∷ r) (spread_same n
 pub each-instruction : EachInstruction
 each-instruction row names v long i good = go row (spread 17 (at row)) (spread_same 17 row long) i spread_row
   where
-    spread_row : read_of (spread 17 (at row)) names ≡ read.Item (item.Instruction v) → Row (spread 17 (at row)) v
+    spread_row : read_of (spread 17 (at row)) names ≡ Ok (item.Instruction v) → Row (spread 17 (at row)) v
     spread_row j =
         row-spells (at row 1) (at row 2) (at row 3) (at row 4) (at row 5) (at row 6) (at row 7) (at row 8) (at row 9) (at row 10) (at row 11) (at row 12) (at row 13)
         (at row 14) (at row 15) (at row 16) v (at row 0) names j good
 
-    go : (l m : List ℕ) → l ≡ m → read_of l names ≡ read.Item (item.Instruction v) → (read_of m names ≡ read.Item (item.Instruction v) → Row m v) → Row l v
+    go : (l m : List ℕ) → l ≡ m → read_of l names ≡ Ok (item.Instruction v) → (read_of m names ≡ Ok (item.Instruction v) → Row m v) → Row l v
     go l m e j f = rw e (f (rw e at j))
 
 -- THE THEOREMS of jumps to a label and of loop starts
@@ -192,7 +187,7 @@ each-jump row names c s l i z g =
     let p = spells (form_parcels (jump_form c z false)) 3 (jump_layout c z false).fields (ap form_parcels e) (jump-faithful c z false g) in
     (p, ap (λ (n : ℕ). signed_in 24 (field 23 0 n)) p.makes ∙ jump-carries c z false (pack (jump_layout c z false).fields) e)
 
-loop-row : (row : List ℕ) (names : ℕ) (c : LoopCount) (m : LoopMode) → length row ≡ 17 → read_of row names ≡ read.Item (item.LoopBegin c m) → RangedCount c
+loop-row : (row : List ℕ) (names : ℕ) (c : LoopCount) (m : LoopMode) → length row ≡ 17 → read_of row names ≡ Ok (item.LoopBegin c m) → RangedCount c
 loop-row [] names c m n i = absurd (omega arith)
 loop-row (k ∷ []) names c m n i = absurd (omega arith)
 loop-row (k ∷ a ∷ []) names c m n i = absurd (omega arith)

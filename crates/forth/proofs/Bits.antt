@@ -2,7 +2,7 @@
 use Prim.Native.Nat.{ℕ, zero, suc, ◌+◌, ◌-◌, ◌*◌, ◌/◌, ◌%◌, ◌^◌, ◌≤◌, ◌<◌}
 use native.Mathlib.Omega.{arith}
 use mathlib.Core.Path.{◌≡◌, refl}
-use mathlib.Core.Bool.{Bool, true, false, not, cond, ◌||◌, beq}
+use mathlib.Core.Bool.{Bool, true, false, not, cond, ◌&&◌, ◌||◌, beq}
 use lib.Dec.{eqb, ltb}
 use lib.IntN.{pos, negsuc}
 use mir.Syntax.{w32}
@@ -12,7 +12,9 @@ use Rattle.signs.specs.Signs.{folded, within}
 use Rattle.words.specs.Forms.{bit_of, condition_code, is_store, is_post, is_f1}
 use Rattle.encode.specs.Registers.{is_pm, mixed}
 use Rattle.rows.specs.Fields.{condition_of, direction_of, update_of, mode_of}
+use Rattle.fields.proofs.Matching.{both}
 use Rattle.known.proofs.UpTo.{up_to_lem}
+use Rattle.std.specs.Prelude.{is_some, unwrap_or}
 use Rattle.known.specs.Table.{source, widened, condition_at}
 
 -- a register's number is a byte
@@ -79,14 +81,18 @@ pub unmixed : (i m g : ℕ) → i < 8 → m < 8 → g < 2 → mixed ((i + 8 * g)
 unmixed i m g hi hm l = rw (in_dag_lem i g hi l, in_dag_lem m g hm l) (beq_same (eqb g 1))
 
 -- ---- conditions: a test of each code
-pub condition-back : (n : ℕ) → n < 32 → condition_at n < 7 → condition_code (condition_of (condition_at n)) ≡ n
+abbrev condition : ℕ → ℕ
+condition n = unwrap_or (condition_at n) 0
+
+pub condition-back : (n : ℕ) → n < 32 → is_some (condition_at n) ≡ true → (condition n < 7) × (condition_code (condition_of (condition n)) ≡ n)
 unfolding condition_of
-condition-back n h l = go (ltb (condition_at n) 7) (eqb (condition_code (condition_of (condition_at n))) n) refl refl (up_to_lem 32 (λ k. not (ltb (condition_at k) 7) || eqb (condition_code (condition_of (condition_at k))) k) n refl h)
+condition-back n h l = go (is_some (condition_at n)) refl l (up_to_lem 32 (λ k. not (is_some (condition_at k)) || (ltb (condition k) 7 && eqb (condition_code (condition_of (condition k))) k)) n refl h)
   where
-    go : (s t : Bool) → ltb (condition_at n) 7 ≡ s → eqb (condition_code (condition_of (condition_at n))) n ≡ t → (not s || t) ≡ true → condition_code (condition_of (condition_at n)) ≡ n
-    go true true x y z = eqb-true _ n y
-    go true false x y z = cc
-    go false t x y z = let m = ltb-false (condition_at n) 7 x in absurd (omega arith)
+    go :
+        (t : Bool) → is_some (condition_at n) ≡ t → t ≡ true → (not t || (ltb (condition n) 7 && eqb (condition_code (condition_of (condition n))) n)) ≡ true →
+        (condition n < 7) × (condition_code (condition_of (condition n)) ≡ n)
+    go true e y z = let b = both (ltb (condition n) 7) (eqb (condition_code (condition_of (condition n))) n) z in (ltb-true _ _ b.0, eqb-true _ _ b.1)
+    go false e y z = let o : ◌≡◌ {A = ℕ} 0 1 = cc in absurd (omega arith)
 
 -- ---- signed numbers: a field of 2 ^ m numbers, half of them negative
 pub record Signed (m h v z : ℕ) : Type 0 where

@@ -10,6 +10,7 @@ use Rattle.fields.specs.Parcels.{cut}
 use Rattle.fields.specs.Matching.{matches, found, raised, Suits, filled_by}
 use Rattle.fields.proofs.Matching.{remade, found_suits, matches-raised, found-raised}
 use Rattle.encode.proofs.Laid.{Wide, one, two, three}
+use Rattle.std.specs.Prelude.{Option, Some, None}
 use Rattle.known.specs.declared.Known.{Known}
 use Rattle.known.specs.Front.{EncodesTo, StartsLoop}
 use Rattle.known.specs.Table.{Line, first_line, known_if, entry}
@@ -56,8 +57,9 @@ abbrev pub Gives : ℕ → List ℕ → List ℕ → Type 0
 Gives n parcels row = EncodesTo parcels row ⊎ ((n ≡ 3) × StartsLoop parcels row)
 
 -- what stands at the front of a word of three parcels
-abbrev pub Stands : Known → ℕ → Type 0
-Stands k word = 0 < k.parcels → (k.parcels ≤ 3) × Gives k.parcels (cut k.parcels (word / 2 ^ (48 - 16 * k.parcels))) k.row
+abbrev pub Stands : Option Known → ℕ → Type 0
+Stands None word = Unit {0}
+Stands (Some k) word = (k.parcels ≤ 3) × Gives k.parcels (cut k.parcels (word / 2 ^ (48 - 16 * k.parcels))) k.row
 
 front-small : (n word : ℕ) → Wide n → word < 2 ^ 48 → word / 2 ^ (48 - 16 * n) < 2 ^ (16 * n)
 front-small n word (one e) h = rw e (omega arith)
@@ -86,8 +88,8 @@ module _ {n : ℕ} {form : List Field} {fine : List ℕ → Bool} {row : List �
   made-stands ns word g = go (fine ns) g
     where
       go : (t : Bool) → (t ≡ true → Gives n (cut n (word / 2 ^ (48 - 16 * n))) (row ns)) → Stands (known_if t n (row ns)) word
-      go true g p = (few n entry_of.wide, g refl)
-      go false g p = absurd (omega arith)
+      go true g = (few n entry_of.wide, g refl)
+      go false g = tt
 
   abbrev higher : List Field
   higher = raised (48 - 16 * n) form

@@ -1,7 +1,7 @@
 -- THEOREMS of the reader's table, forth: what it gives encodes to the parcels that it was read from, or is the loop start whose word they are.
 use Prim.Native.Nat.{ℕ, zero, suc, ◌+◌, ◌-◌, ◌*◌, ◌/◌, ◌^◌, ◌≤◌, ◌<◌}
 use native.Mathlib.Omega.{arith}
-use mathlib.Core.Path.{◌≡◌, refl, sym, ap, ap₂, subst}
+use mathlib.Core.Path.{◌≡◌, refl, sym, ap, ap₂, ◌∙◌, subst}
 use mathlib.Core.Logic.{◌⊎◌, inl, inr}
 use mathlib.Core.Bool.{Bool, true, false, cond}
 use mathlib.Core.List.{List, [], ◌∷◌}
@@ -21,10 +21,12 @@ use Rattle.rows.specs.Rows.{item_of}
 use Rattle.faithful.proofs.Lines.{◌&◌}
 use Rattle.known.specs.declared.Known.{Known}
 use Rattle.known.specs.Front.{EncodesTo, StartsLoop, Parcels}
-use Rattle.known.specs.Table.{known, nothing, line, table, known_in}
-use Rattle.known.proofs.Equal.{equal-same}
+use Rattle.std.specs.Prelude.{Option, Some, None}
+use Rattle.std.specs.Bool.{then_some}
+use Rattle.known.specs.Table.{known, line, table, known_in}
+use Rattle.known.proofs.Leaf.{leaf-taken}
 use Rattle.known.proofs.Starts.{loop-moved}
-use Rattle.known.specs.Window.{window, starts_leaf, known_at}
+use Rattle.known.specs.Window.{window, starts_leaf, cut_off, known_at}
 use Rattle.forth.proofs.Entries.{Gives, Stands, Holds, Each, first-line, entry-stands}
 use Rattle.forth.proofs.Encoded.{encodes}
 use Rattle.forth.proofs.Plain as plain
@@ -61,11 +63,11 @@ each_line =
 
 -- THE THEOREM of the table
 pub table-encodes :
-    (word : ℕ) → word < 2 ^ 48 → (n : ℕ) (row : List ℕ) → known_in word ≡ known n row → 0 < n →
+    (word : ℕ) → word < 2 ^ 48 → (n : ℕ) (row : List ℕ) → known_in word ≡ Some (known n row) →
     (n ≤ 3) × Gives n (cut n (word / 2 ^ (48 - 16 * n))) row
 unfolding known_in
 table-encodes word h n row e =
-    subst (λ (k : Known). Stands k word) e (first-line Stands (2 ^ 48) nothing table each_line word h (λ p. absurd (omega arith)))
+    subst (λ (o : Option Known). Stands o word) e (first-line Stands (2 ^ 48) None table each_line word h tt)
 
 -- ---- one, two or three parcels of the window
 abbrev word3 : ℕ → ℕ → ℕ → ℕ
@@ -82,15 +84,15 @@ module _ (x y z : ℕ) (hx : x < 2 ^ 16) (hy : y < 2 ^ 16) (hz : z < 2 ^ 16) whe
   front-three = ap₂ ◌∷◌ (omega arith) (ap₂ ◌∷◌ (omega arith) (ap (λ (p : ℕ). p ∷ []) (omega arith)))
 
 -- ---- the parcels at the front are those of the window
-front_cut : (n : ℕ) (parcels : List ℕ) → Parcels parcels → 0 < n → n ≤ 3 → n ≤ length parcels → cut n (window parcels / 2 ^ (48 - 16 * n)) ≡ take n parcels
-front_cut zero ps h p few long = absurd (omega arith)
-front_cut (suc n) [] h p few long = absurd (omega arith)
-front_cut (suc zero) (x ∷ ps) h p few long = front-one x (at ps 0) (at ps 1) (h 0) (h 1) (h 2)
-front_cut (suc (suc n)) (x ∷ []) h p few long = absurd (omega arith)
-front_cut (suc (suc zero)) (x ∷ y ∷ ps) h p few long = front-two x y (at ps 0) (h 0) (h 1) (h 2)
-front_cut (suc (suc (suc n))) (x ∷ y ∷ []) h p few long = absurd (omega arith)
-front_cut (suc (suc (suc zero))) (x ∷ y ∷ z ∷ ps) h p few long = front-three x y z (h 0) (h 1) (h 2)
-front_cut (suc (suc (suc (suc n)))) (x ∷ y ∷ z ∷ ps) h p few long = absurd (omega arith)
+front_cut : (n : ℕ) (parcels : List ℕ) → Parcels parcels → n ≤ 3 → n ≤ length parcels → cut n (window parcels / 2 ^ (48 - 16 * n)) ≡ take n parcels
+front_cut zero ps h few long = refl
+front_cut (suc n) [] h few long = absurd (omega arith)
+front_cut (suc zero) (x ∷ ps) h few long = front-one x (at ps 0) (at ps 1) (h 0) (h 1) (h 2)
+front_cut (suc (suc n)) (x ∷ []) h few long = absurd (omega arith)
+front_cut (suc (suc zero)) (x ∷ y ∷ ps) h few long = front-two x y (at ps 0) (h 0) (h 1) (h 2)
+front_cut (suc (suc (suc n))) (x ∷ y ∷ []) h few long = absurd (omega arith)
+front_cut (suc (suc (suc zero))) (x ∷ y ∷ z ∷ ps) h few long = front-three x y z (h 0) (h 1) (h 2)
+front_cut (suc (suc (suc (suc n)))) (x ∷ y ∷ z ∷ ps) h few long = absurd (omega arith)
 
 window-small : (parcels : List ℕ) → Parcels parcels → window parcels < 2 ^ 48
 window-small parcels h = omega (arith, h 0, h 1, h 2)
@@ -109,7 +111,7 @@ Starts parcels n row = (n ≤ length parcels) × (EncodesTo (take n parcels) row
 
 leaf-starts : (parcels : List ℕ) → starts_leaf parcels ≡ true → Starts parcels 6 (line 31 0 0 0)
 leaf-starts parcels e =
-    let s = equal-same (take 6 parcels) (cut 6 (pack leaf_return)) e in
+    let s = leaf-taken parcels e in
     (taken-long 6 parcels (ap length s), inl (subst (λ (ps : List ℕ). EncodesTo ps (line 31 0 0 0)) (sym s) leaf-encodes))
 
 -- a loop's three parcels, with those that follow
@@ -123,25 +125,28 @@ on n parcels row long (inr l) =
     (long, inr (l.0, loop-on parcels row (omega (arith, l.0)) s))
 
 -- THE THEOREM of the front
-pub known-starts : (parcels : List ℕ) → Parcels parcels → (n : ℕ) (row : List ℕ) → known_at parcels ≡ known n row → 0 < n → Starts parcels n row
+pub known-starts : (parcels : List ℕ) → Parcels parcels → (n : ℕ) (row : List ℕ) → known_at parcels ≡ Some (known n row) → Starts parcels n row
 unfolding known_at
-known-starts parcels h n row e p = go (starts_leaf parcels) (leb (known_in (window parcels)).parcels (length parcels)) refl refl e
+known-starts parcels h n row e = go (starts_leaf parcels) (known_in (window parcels)) refl refl e
   where
-    at_table : known_in (window parcels) ≡ known n row → n ≤ length parcels → Starts parcels n row
+    at_table : known_in (window parcels) ≡ Some (known n row) → n ≤ length parcels → Starts parcels n row
     at_table k long =
-        let g = table-encodes (window parcels) (window-small parcels h) n row k p in
-        on n parcels row long (subst (λ (ps : List ℕ). Gives n ps row) (front_cut n parcels h p g.0 long) g.1)
+        let g = table-encodes (window parcels) (window-small parcels h) n row k in
+        on n parcels row long (subst (λ (ps : List ℕ). Gives n ps row) (front_cut n parcels h g.0 long) g.1)
+
+    whole : (t : Bool) (k : Known) → known_in (window parcels) ≡ Some k → leb k.parcels (length parcels) ≡ t → then_some t k ≡ Some (known n row) → Starts parcels n row
+    whole true k x y q =
+        let a : k ≡ known n row = cc in
+        at_table (x ∙ ap Some a) (omega (arith, leb-true k.parcels (length parcels) y, ap (λ (k : Known). k.parcels) a))
+    whole false k x y q = let o : ◌≡◌ {A = ℕ} 0 1 = cc in absurd (omega arith)
 
     go :
-        (s t : Bool) → starts_leaf parcels ≡ s → leb (known_in (window parcels)).parcels (length parcels) ≡ t →
-        cond s (known 6 (line 31 0 0 0)) (cond t (known_in (window parcels)) nothing) ≡ known n row → Starts parcels n row
-    go true t x y q =
-        let a : 6 ≡ n = ap (λ (k : Known). k.parcels) q in
-        let b : line 31 0 0 0 ≡ row = ap (λ (k : Known). k.row) q in
+        (s : Bool) (o : Option Known) → starts_leaf parcels ≡ s → known_in (window parcels) ≡ o →
+        cond s (Some (known 6 (line 31 0 0 0))) (cut_off (length parcels) o) ≡ Some (known n row) → Starts parcels n row
+    go true o x y q =
+        let k : known 6 (line 31 0 0 0) ≡ known n row = cc in
+        let a : 6 ≡ n = ap (λ (k : Known). k.parcels) k in
+        let b : line 31 0 0 0 ≡ row = ap (λ (k : Known). k.row) k in
         rw (← a, ← b) (leaf-starts parcels x)
-    go false true x y q =
-        let a : (known_in (window parcels)).parcels ≡ n = ap (λ (k : Known). k.parcels) q in
-        at_table q (omega (arith, leb-true (known_in (window parcels)).parcels (length parcels) y))
-    go false false x y q =
-        let a : 0 ≡ n = ap (λ (k : Known). k.parcels) q in
-        absurd (omega arith)
+    go false None x y q = let o : ◌≡◌ {A = ℕ} 0 1 = cc in absurd (omega arith)
+    go false (Some k) x y q = whole (leb k.parcels (length parcels)) k y refl q

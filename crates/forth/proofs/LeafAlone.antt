@@ -12,7 +12,8 @@ use Rattle.fields.proofs.Matching.{both, is_false, not_both, matches-raised, fou
 use Rattle.words.specs.Forms.{modify3b}
 use Rattle.bounds.specs.Tables.{at}
 use Rattle.known.specs.Front as front
-use Rattle.known.specs.Table.{Line, first_line, line, known, nothing, line3b, table, known_in}
+use Rattle.std.specs.Prelude.{Some, None}
+use Rattle.known.specs.Table.{Line, first_line, line, known, line3b, table, known_in}
 use Rattle.known.specs.Window.{window, starts_leaf, known_at, reading_at}
 use Rattle.known.specs.Front.{Parcels}
 use Rattle.known.proofs.Apart.{apart_from}
@@ -37,14 +38,14 @@ third-apart = refl
 third-word : (y z : ℕ) → y < 2 ^ 16 → z < 2 ^ 16 → matches third (0x083f * 2 ^ 32 + y * 2 ^ 16 + z) ≡ true
 third-word y z hy hz = rw (eq-eqb (field 47 32 (0x083f * 2 ^ 32 + y * 2 ^ 16 + z)) 0x083f (omega arith))
 
-third-nothing : (rest : List ℕ) → Parcels rest → known_in (window (0x083f ∷ rest)) ≡ nothing
+third-nothing : (rest : List ℕ) → Parcels rest → known_in (window (0x083f ∷ rest)) ≡ None
 unfolding known_in
 third-nothing rest h =
-    apart_none third nothing table (window (0x083f ∷ rest)) third-apart (third-word (at rest 0) (at rest 1) (h 0) (h 1))
+    apart_none third None table (window (0x083f ∷ rest)) third-apart (third-word (at rest 0) (at rest 1) (h 0) (h 1))
 
 pub third-unknown : (rest : List ℕ) → Parcels rest → reading_at (0x083f ∷ rest) ≡ front.unknown
 unfolding known_at
-third-unknown rest h = rw (third-nothing rest h, le-leb 0 (length (0x083f ∷ rest)) (omega arith))
+third-unknown rest h = rw (third-nothing rest h)
 
 -- "its first two alone are a pre-modify load of I12": where the other four do not follow
 abbrev load : List ℕ
@@ -53,7 +54,7 @@ load = line 21 28 6 7
 front-word : (y : ℕ) → y < 2 ^ 16 → (0x4dfe * 2 ^ 32 + 0x0e3f * 2 ^ 16 + y) / 2 ^ 16 ≡ 0x4dfe_0e3f
 front-word y h = omega arith
 
-load-known : (y : ℕ) → y < 2 ^ 16 → known_in (0x4dfe * 2 ^ 32 + 0x0e3f * 2 ^ 16 + y) ≡ known 2 load
+load-known : (y : ℕ) → y < 2 ^ 16 → known_in (0x4dfe * 2 ^ 32 + 0x0e3f * 2 ^ 16 + y) ≡ Some (known 2 load)
 unfolding known_in table
 load-known y h =
     let word = 0x4dfe * 2 ^ 32 + 0x0e3f * 2 ^ 16 + y in

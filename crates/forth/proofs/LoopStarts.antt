@@ -14,7 +14,7 @@ use Rattle.fields.specs.Parcels.{cut}
 use Rattle.fields.specs.Matching.{filled_by}
 use Rattle.fields.proofs.Matching.{both}
 use Rattle.signs.specs.Signs.{within}
-use Rattle.refusals.specs.declared.Verdict.TheVariants.{Good}
+use Rattle.std.specs.Prelude.{Ok}
 use Rattle.refusals.proofs.Order.{AllGood, good-when}
 use Rattle.words.specs.Forms.{loop12a, register_loop12a}
 use Rattle.words.proofs.Tiling.{tiles_12a, tiles_12a_register}
@@ -50,7 +50,7 @@ module _ (form : List Field) (choice count mode offset : ℕ) (ns : List ℕ) (f
   abbrev fields : List Field
   fields = (loop_layout (count_of choice count) (mode_of mode) (pos offset)).fields
 
-  loop-good : AllGood (loop_layout (count_of choice count) (mode_of mode) (pos offset)).refusals → form_verdict (loop_form (count_of choice count) (mode_of mode) (pos offset)) ≡ Good
+  loop-good : AllGood (loop_layout (count_of choice count) (mode_of mode) (pos offset)).refusals → form_verdict (loop_form (count_of choice count) (mode_of mode) (pos offset)) ≡ Ok tt
   unfolding loop_form
   loop-good p = passed-good (loop_layout (count_of choice count) (mode_of mode) (pos offset)) p
 

@@ -1,10 +1,10 @@
 -- The lines with a compute: a compute by itself, and a dual and a memory move with the compute beside them, or none.
-use Prim.Native.Nat.{ℕ, zero, suc, ◌+◌, ◌-◌, ◌*◌, ◌%◌, ◌<◌}
+use Prim.Native.Nat.{ℕ, zero, suc, ◌+◌, ◌-◌, ◌*◌, ◌^◌, ◌%◌, ◌<◌}
 use native.Mathlib.Omega.{arith}
 use native.Mathlib.Nat.{zero-add, suc-add}
-use mathlib.Core.Path.{◌≡◌, refl, ap, subst}
+use mathlib.Core.Path.{◌≡◌, refl, sym, ap, subst}
 use mathlib.Core.Logic.{inl}
-use mathlib.Core.Bool.{Bool, true, false, not, ◌&&◌, ◌||◌}
+use mathlib.Core.Bool.{Bool, true, false, not, ◌&&◌, ◌||◌, true≢false}
 use mathlib.Core.List.{List, [], ◌∷◌, ◌++◌, append_assoc}
 use lib.Dec.{eqb, ltb}
 use lib.ListN.{length, take, drop, replicate, length-append, length-take, length-replicate}
@@ -26,12 +26,13 @@ use Rattle.encode.specs.Registers.{in_dag, writes, dm_clashes, pm_clashes, same_
 use Rattle.encode.specs.Layouts.{layout_of}
 use Rattle.bounds.specs.Bounds.{spare, never, form, filled, compute, data_access, memory_access, bounds_of}
 use Rattle.bounds.specs.Tables.{at}
-use Rattle.rows.specs.declared.Read.TheVariants as read
+use Rattle.std.specs.Prelude.{Ok}
 use Rattle.rows.specs.Kept.{Below}
 use Rattle.rows.specs.Rows.{data_access_of, memory_access_of, compute_item, dual_item, memory_item, item_of}
 use Rattle.faithful.proofs.Lines.{◌&◌}
+use Rattle.std.specs.Prelude.{Option, Some, None, is_some, unwrap_or}
 use Rattle.known.specs.declared.Held.{Held}
-use Rattle.known.specs.Table.{compute_at, beside_at, writes_to, dual_fine, memory_fine}
+use Rattle.known.specs.Table.{compute_at, beside_at, places_of, writes_to, dual_fine, memory_fine}
 use Rattle.forth.proofs.Entries.{Gives, Entry, entered}
 use Rattle.forth.proofs.Encoded.{encodes}
 use Rattle.forth.proofs.Bits.{untrue, byte, flag, stores, loads, posts, in_dag_lem, low_bits, unmixed}
@@ -70,11 +71,17 @@ module _ (n : ℕ) (h : Held) (m : Makes n h) where
   unfolding item_of layout_of
   compute-gives =
       inl
-      (encodes row (Visa.Compute record { field = n; first = h.first; second = h.second }) 3 (type2a (whole n)) (length-row 32 h.places (replicate 8 0) m.eight refl)
+      (encodes row (Visa.Compute record { field = n; first = unwrap_or h.first 16; second = unwrap_or h.second 16 }) 3 (type2a (whole n)) (length-row 32 h.places (replicate 8 0) m.eight refl)
       compute-below refl (ap compute_item (m.makes 32 (replicate 8 0))) tt refl refl)
 
-pub computed : Entry 3 (type2a (whole 0)) (λ ns. (compute_at (at ns 0)).fine) (λ ns. 32 ∷ ((compute_at (at ns 0)).places ++ replicate 8 0))
-computed = entered (three refl) (tiles_2a 0) (λ n hn f. compute-gives n (compute_at n) (compute-makes n hn f))
+pub computed : Entry 3 (type2a (whole 0)) (λ ns. is_some (compute_at (at ns 0))) (λ ns. 32 ∷ (places_of (compute_at (at ns 0)) ++ replicate 8 0))
+computed = entered (three refl) (tiles_2a 0) (λ n hn. go n hn (compute_at n) refl)
+  where
+    go :
+        (n : ℕ) → n < 2 ^ 23 → (o : Option Held) → compute_at n ≡ o → is_some o ≡ true →
+        Gives 3 (cut 3 (pack (filled_by (type2a (whole 0)) (n ∷ [])))) (32 ∷ (places_of o ++ replicate 8 0))
+    go n hn None e f = absurd (true≢false (sym f))
+    go n hn (Some h) e f = compute-gives n h (compute-makes n hn h e)
 
 -- an index or a modifier of DAG2
 high_bits : (n : ℕ) → n < 8 → (n + 8) % 256 % 8 ≡ n
@@ -92,7 +99,7 @@ module _ (n : ℕ) (h : Held) (m : Besides n h) where
 
   -- kind 33: what the fine line rules out is what the dual move refuses
   module _ (dmd dmi dmm pmd dmdreg pmi pmm pmdreg : ℕ) (hd : dmd < 2) (hi : dmi < 8) (hm : dmm < 8) (hp : pmd < 2) (hr : dmdreg < 16) (hj : pmi < 8)
-      (hn : pmm < 8) (hq : pmdreg < 16) (fine : dual_fine h dmd dmdreg pmd pmdreg ≡ true) where
+      (hn : pmm < 8) (hq : pmdreg < 16) (fine : dual_fine (Some h) dmd dmdreg pmd pmdreg ≡ true) where
     abbrev rest : List ℕ
     rest = dmd ∷ dmdreg ∷ dmi ∷ dmm ∷ pmd ∷ pmdreg ∷ (pmi + 8) ∷ (pmm + 8) ∷ []
 
@@ -104,8 +111,7 @@ module _ (n : ℕ) (h : Held) (m : Besides n h) where
 
     dual_clear : ((eqb dmd 0 && writes_to h dmdreg) ≡ false) × ((eqb pmd 0 && (writes_to h pmdreg || (eqb dmd 0 && eqb dmdreg pmdreg))) ≡ false)
     dual_clear =
-        let x = both h.fine _ fine in
-        let y = both (not (eqb dmd 0 && writes_to h dmdreg)) _ x.1 in
+        let y = both (not (eqb dmd 0 && writes_to h dmdreg)) _ fine in
         (not-true _ y.0, not-true _ y.1)
 
     dm-clear : dm_clashes m.optional dm ≡ false
@@ -124,7 +130,7 @@ module _ (n : ℕ) (h : Held) (m : Besides n h) where
         & good-when _ _ (untrue _ (le-leb 8 ((pmi + 8) % 256) (omega arith))) & good-when _ _ (untrue _ (le-leb 8 ((pmm + 8) % 256) (omega arith)))
         & good-when _ _ dm-clear & good-when _ _ pm-clear & tt
 
-    dual_read : item_of (33 ∷ (h.places ++ rest)) ≡ read.Item (item.Instruction (Visa.DualMove m.optional dm pm))
+    dual_read : item_of (33 ∷ (h.places ++ rest)) ≡ Ok (item.Instruction (Visa.DualMove m.optional dm pm))
     unfolding item_of
     dual_read =
         rw (past rest 0, past rest 1, past rest 2, past rest 3, past rest 4, past rest 5, past rest 6, past rest 7) (ap (dual_item dm pm) (m.makes 33 rest))
@@ -151,7 +157,7 @@ module _ (n : ℕ) (h : Held) (m : Besides n h) where
         )))
 
   -- kind 34, likewise
-  module _ (u i o g d code : ℕ) (hu : u < 2) (hi : i < 8) (ho : o < 8) (hg : g < 2) (hd : d < 2) (fine : memory_fine h u g d code ≡ true) where
+  module _ (u i o g d code : ℕ) (hu : u < 2) (hi : i < 8) (ho : o < 8) (hg : g < 2) (hd : d < 2) (fine : memory_fine (Some h) u g d code ≡ true) where
     abbrev after : List ℕ
     after = d ∷ code ∷ (i + 8 * g) ∷ (o + 8 * g) ∷ (1 - u) ∷ 0 ∷ 0 ∷ 0 ∷ []
 
@@ -161,8 +167,7 @@ module _ (n : ℕ) (h : Held) (m : Besides n h) where
     memory-clear :
         (code < 0x60) × (((eqb u 1 || eqb d 1) && in_dag code (eqb g 1)) ≡ false) × ((eqb d 0 && (ltb code 16 && writes_to h code)) ≡ false)
     memory-clear =
-        let x = both h.fine _ fine in
-        let y = both (ltb code 0x60) _ x.1 in
+        let y = both (ltb code 0x60) _ fine in
         let z = both (not ((eqb u 1 || eqb d 1) && in_dag code (eqb g 1))) _ y.1 in
         (ltb-true code 0x60 y.0, not-true _ z.0, not-true _ z.1)
 
@@ -186,7 +191,7 @@ module _ (n : ℕ) (h : Held) (m : Besides n h) where
     unfolding layout_of memory_access_of
     memory-passes = good-when _ _ (unmixed i o g hi ho hg) & good-when _ _ dag_clear & good-when _ _ load-clear & tt
 
-    memory-read : item_of (34 ∷ (h.places ++ after)) ≡ read.Item (item.Instruction (Visa.MemoryMove m.optional access))
+    memory-read : item_of (34 ∷ (h.places ++ after)) ≡ Ok (item.Instruction (Visa.MemoryMove m.optional access))
     unfolding item_of
     memory-read =
         rw (past after 0, past after 1, past after 2, past after 3, past after 4) (ap (memory_item access) (m.makes 34 after))
@@ -203,14 +208,29 @@ module _ (n : ℕ) (h : Held) (m : Besides n h) where
 
 pub dual_move :
     Entry 3 (dual1a 0 0 0 0 0 0 0 0 (whole 0)) (λ ns. dual_fine (beside_at (at ns 8)) (at ns 0) (at ns 4) (at ns 3) (at ns 7))
-    (λ ns. 33 ∷ ((beside_at (at ns 8)).places ++ (at ns 0 ∷ at ns 4 ∷ at ns 1 ∷ at ns 2 ∷ at ns 3 ∷ at ns 7 ∷ (at ns 5 + 8) ∷ (at ns 6 + 8) ∷ [])))
+    (λ ns. 33 ∷ (places_of (beside_at (at ns 8)) ++ (at ns 0 ∷ at ns 4 ∷ at ns 1 ∷ at ns 2 ∷ at ns 3 ∷ at ns 7 ∷ (at ns 5 + 8) ∷ (at ns 6 + 8) ∷ [])))
 dual_move = entered (three refl) (tiles_1a 0 0 0 0 0 0 0 0 0)
-    (λ dmd hd dmi hi dmm hm pmd hp dmdreg hr pmi hj pmm hn pmdreg hq n l f.
-    dual_gives n (beside_at n) (beside-makes n l (both (beside_at n).fine _ f).0) dmd dmi dmm pmd dmdreg pmi pmm pmdreg hd hi hm hp hr hj hn hq f)
+    (λ dmd hd dmi hi dmm hm pmd hp dmdreg hr pmi hj pmm hn pmdreg hq n l. go dmd hd dmi hi dmm hm pmd hp dmdreg hr pmi hj pmm hn pmdreg hq n l (beside_at n) refl)
+  where
+    go :
+        (dmd : ℕ) → dmd < 2 → (dmi : ℕ) → dmi < 8 → (dmm : ℕ) → dmm < 8 → (pmd : ℕ) → pmd < 2 → (dmdreg : ℕ) → dmdreg < 16 → (pmi : ℕ) → pmi < 8 →
+        (pmm : ℕ) → pmm < 8 → (pmdreg : ℕ) → pmdreg < 16 → (n : ℕ) → n < 2 ^ 23 → (o : Option Held) → beside_at n ≡ o → dual_fine o dmd dmdreg pmd pmdreg ≡ true →
+        Gives 3 (cut 3 (pack (filled_by (dual1a 0 0 0 0 0 0 0 0 (whole 0)) (dmd ∷ dmi ∷ dmm ∷ pmd ∷ dmdreg ∷ pmi ∷ pmm ∷ pmdreg ∷ n ∷ []))))
+        (33 ∷ (places_of o ++ (dmd ∷ dmdreg ∷ dmi ∷ dmm ∷ pmd ∷ pmdreg ∷ (pmi + 8) ∷ (pmm + 8) ∷ [])))
+    go dmd hd dmi hi dmm hm pmd hp dmdreg hr pmi hj pmm hn pmdreg hq n l None e f = absurd (true≢false (sym f))
+    go dmd hd dmi hi dmm hm pmd hp dmdreg hr pmi hj pmm hn pmdreg hq n l (Some h) e f =
+        dual_gives n h (beside-makes n l h e) dmd dmi dmm pmd dmdreg pmi pmm pmdreg hd hi hm hp hr hj hn hq f
 
 pub memory-move :
     Entry 3 (memory3a 0 0 0 0 0 0 (whole 0)) (λ ns. memory_fine (beside_at (at ns 6)) (at ns 0) (at ns 3) (at ns 4) (at ns 5))
-    (λ ns. 34 ∷ ((beside_at (at ns 6)).places ++ (at ns 4 ∷ at ns 5 ∷ (at ns 1 + 8 * at ns 3) ∷ (at ns 2 + 8 * at ns 3) ∷ (1 - at ns 0) ∷ 0 ∷ 0 ∷ 0 ∷ [])))
+    (λ ns. 34 ∷ (places_of (beside_at (at ns 6)) ++ (at ns 4 ∷ at ns 5 ∷ (at ns 1 + 8 * at ns 3) ∷ (at ns 2 + 8 * at ns 3) ∷ (1 - at ns 0) ∷ 0 ∷ 0 ∷ 0 ∷ [])))
 memory-move = entered (three refl) (tiles_3a 0 0 0 0 0 0 0)
-    (λ u hu i hi o ho g hg d hd code hc n l f.
-    memory-gives n (beside_at n) (beside-makes n l (both (beside_at n).fine _ f).0) u i o g d code hu hi ho hg hd f)
+    (λ u hu i hi m hm g hg d hd code hc n l. go u hu i hi m hm g hg d hd code n l (beside_at n) refl)
+  where
+    go :
+        (u : ℕ) → u < 2 → (i : ℕ) → i < 8 → (m : ℕ) → m < 8 → (g : ℕ) → g < 2 → (d : ℕ) → d < 2 → (code n : ℕ) → n < 2 ^ 23 → (o : Option Held) →
+        beside_at n ≡ o → memory_fine o u g d code ≡ true →
+        Gives 3 (cut 3 (pack (filled_by (memory3a 0 0 0 0 0 0 (whole 0)) (u ∷ i ∷ m ∷ g ∷ d ∷ code ∷ n ∷ []))))
+        (34 ∷ (places_of o ++ (d ∷ code ∷ (i + 8 * g) ∷ (m + 8 * g) ∷ (1 - u) ∷ 0 ∷ 0 ∷ 0 ∷ [])))
+    go u hu i hi m hm g hg d hd code n l None e f = absurd (true≢false (sym f))
+    go u hu i hi m hm g hg d hd code n l (Some h) e f = memory-gives n h (beside-makes n l h e) u i m g d code hu hi hm hg hd f

@@ -22,10 +22,11 @@ use Rattle.encode.specs.Layouts.{Layout, layout_of}
 use Rattle.bounds.specs.Tables.{at}
 use Rattle.bounds.specs.Bounds.{fields, bounds_of}
 use Rattle.bounds.specs.Checks.{inside}
-use Rattle.rows.specs.declared.Read.TheVariants as read
+use Rattle.std.specs.Prelude.{Ok}
 use Rattle.rows.specs.Kept.{Below}
 use Rattle.rows.specs.Fields.{instruction_of, scalars, transfers, others}
 use Rattle.rows.specs.Rows.{item_of}
+use Rattle.std.specs.Prelude.{is_some, unwrap_or}
 use Rattle.known.specs.Table.{line, always, source, widened, condition_at, code_fine}
 use Rattle.forth.proofs.Entries.{Gives, Entry, entered}
 use Rattle.forth.proofs.Encoded.{encodes}
@@ -40,7 +41,7 @@ module _ (n : ℕ) (form : List Field) (ns : List ℕ) (kind a b c : ℕ) where
   layout = layout_of (instruction_of kind a b c)
 
   gives :
-      Below (bounds_of row) (drop 1 row) → inside kind a b c 0 ≡ true → item_of row ≡ read.Item (item.Instruction (instruction_of kind a b c)) → AllGood layout.refusals →
+      Below (bounds_of row) (drop 1 row) → inside kind a b c 0 ≡ true → item_of row ≡ Ok (item.Instruction (instruction_of kind a b c)) → AllGood layout.refusals →
       layout.parcels ≡ n → pack layout.fields ≡ pack (filled_by form ns) → Gives n (cut n (pack (filled_by form ns))) row
   gives h i r p m e = inl (encodes row (instruction_of kind a b c) n (filled_by form ns) refl h i r p m e)
 
@@ -120,15 +121,15 @@ offset-far = entered (three refl) (tiles_15a 0 0 0 0)
     (good-when _ _ (lt-leb 8 (i % 256) (omega arith)), (good-when _ _ (code_stored c g.0), tt)) (rw w) (rw (w, folded-whole o ho) (omega arith)))
     s hs)
 
-pub jump : Entry 3 (jump8a 0 0 0) (λ ns. ltb (condition_at (at ns 0)) 7) (λ ns. line 28 (condition_at (at ns 0)) (widened 0x80_0000 (at ns 2)) (at ns 1))
+pub jump : Entry 3 (jump8a 0 0 0) (λ ns. is_some (condition_at (at ns 0))) (λ ns. line 28 (unwrap_or (condition_at (at ns 0)) 0) (widened 0x80_0000 (at ns 2)) (at ns 1))
 unfolding fields bounds_of item_of instruction_of others layout_of
 jump = entered (three refl) (tiles_8a 0 0 0)
     (λ c hc d hd o ho f.
-    let h = ltb-true (condition_at c) 7 f in
+    let h = condition-back c hc f in
     let z = widened 0x80_0000 o in
     let w = widens 24 0x7f_ffff o (omega arith) refl ho in
-    gives 3 (jump8a 0 0 0) (c ∷ d ∷ o ∷ []) 28 (condition_at c) z d (h, (w.small, (hd, omega arith))) refl refl
-    (good-when _ _ (untrue _ w.near), tt) refl (rw (condition-back c hc h, flag d hd, w.back)))
+    gives 3 (jump8a 0 0 0) (c ∷ d ∷ o ∷ []) 28 (unwrap_or (condition_at c) 0) z d (h.0, (w.small, (hd, omega arith))) refl refl
+    (good-when _ _ (untrue _ w.near), tt) refl (rw (h.1, flag d hd, w.back)))
 
 -- ---- three parcels: the others
 pub call : Entry 3 (call25a 0) always (λ ns. line 29 (at ns 0) 0 0)

@@ -2,8 +2,8 @@
 -- fields.
 use Prim.Native.Nat.{ℕ, zero, suc, ◌+◌, ◌<◌, ◌≤◌}
 use mathlib.Core.List.{List, [], ◌∷◌}
-use mathlib.Core.Bool.{Bool, true, false}
-use mathlib.Core.Path.{◌≡◌, refl, ◌∙◌}
+use mathlib.Core.Bool.{true}
+use mathlib.Core.Path.{◌≡◌, ◌∙◌}
 use native.Mathlib.Omega.{arith}
 use lib.Dec.{ltb}
 use lib.ListN.{length, drop}
@@ -14,11 +14,12 @@ use Rattle.bounds.specs.Bounds.{filled, bounds_of}
 use Rattle.bounds.specs.Checks.{inside}
 use Rattle.bounds.specs.Tables.{at}
 use Rattle.items.specs.declared.Item.TheVariants as item
-use Rattle.rows.specs.declared.Read.TheVariants as read
+use Rattle.std.specs.Prelude.{Ok}
 use Rattle.rows.specs.Fields.{instruction_of}
 use Rattle.rows.specs.Kept.{Below}
 use Rattle.rows.specs.Rows.{item_of, read_of}
 use Rattle.rows.proofs.Kept.{read-item}
+use Rattle.combined.proofs.Fits.{bit_false}
 use Rattle.glances.specs.Glances.{four_from, fits_of}
 
 -- ---- the numbers of a row, spelled out
@@ -31,10 +32,6 @@ spelled row k zero e = let h : length row ≡ k = omega arith in rw (← h) (dro
 spelled row k (suc n) e = let h : k < length row = omega arith in let g : length row ≡ suc k + n = omega arith in rw (drop-cons row k 0 h, spelled row (suc k) n g)
 
 -- ---- what the sum says
-bit_false : (t : Bool) → bit_of t ≡ 0 → t ≡ false
-bit_false true e = absurd (omega arith)
-bit_false false e = refl
-
 within : (most v : ℕ) → bit_of (ltb most v) ≡ 0 → v < suc most
 within most v e = let h = ltb-false most v (bit_false (ltb most v) e) in omega (arith, h)
 
@@ -46,7 +43,7 @@ three a b c = filled 16 (suc a ∷ suc b ∷ suc c ∷ [])
 fits-places : (a b c : ℕ) (row : List ℕ) → fits_of a b c row ≡ true → Below (three a b c) (from row 1 16)
 unfolding fits_of
 fits-places a b c row f =
-    let s : bit_of (ltb a (at row 1)) + bit_of (ltb b (at row 2)) + bit_of (ltb c (at row 3)) + four_from row 4 + four_from row 8 + four_from row 12 + (at row 16 + 0 + 0 + 0) ≡ 0 = eqb-true (bit_of (ltb a (at row 1)) + bit_of (ltb b (at row 2)) + bit_of (ltb c (at row 3)) + four_from row 4 + four_from row 8 + four_from row 12 + (at row 16 + 0 + 0 + 0)) 0 f in
+    let s : bit_of (ltb a (at row 1)) + bit_of (ltb b (at row 2)) + bit_of (ltb c (at row 3)) + four_from row 4 + four_from row 8 + four_from row 12 + at row 16 ≡ 0 = eqb-true (bit_of (ltb a (at row 1)) + bit_of (ltb b (at row 2)) + bit_of (ltb c (at row 3)) + four_from row 4 + four_from row 8 + four_from row 12 + at row 16) 0 f in
     (within a (at row 1) (omega (arith, s)), (within b (at row 2) (omega (arith, s)), (within c (at row 3) (omega (arith, s)), (omega (arith, s), (omega (arith, s), (omega (arith, s), (omega (arith, s), (omega (arith, s), (omega (arith, s), (omega (arith, s), (omega (arith, s), (omega (arith, s), (omega (arith, s), (omega (arith, s), (omega (arith, s), (omega (arith, s), tt))))))))))))))))
 
 -- the three fields themselves
@@ -64,11 +61,11 @@ fits_below x y z a b c row n p q r f =
 pub record Three (kind x y z : ℕ) (row : List ℕ) : Type 0 where
   pub bounds : bounds_of row ≡ three x y z
   pub unnamed : (names : ℕ) → inside (at row 0) (at row 1) (at row 2) (at row 3) names ≡ true
-  pub item-is : item_of row ≡ read.Item (item.Instruction (instruction_of kind (at row 1) (at row 2) (at row 3)))
+  pub item-is : item_of row ≡ Ok (item.Instruction (instruction_of kind (at row 1) (at row 2) (at row 3)))
 
 pub reads_three :
     {kind x y z : ℕ} (a b c : ℕ) (row : List ℕ) → length row ≡ 17 → Three kind x y z row → a ≤ x → b ≤ y → c ≤ z → fits_of a b c row ≡ true → (names : ℕ)
-    → read_of row names ≡ read.Item (item.Instruction (instruction_of kind (at row 1) (at row 2) (at row 3)))
+    → read_of row names ≡ Ok (item.Instruction (instruction_of kind (at row 1) (at row 2) (at row 3)))
 reads_three {kind} {x} {y} {z} a b c row n t p q r f names =
     let h : Below (bounds_of row) (drop 1 row) = rw t.bounds (fits_below x y z a b c row n p q r f) in
     read-item row names h (t.unnamed names) ∙ t.item-is

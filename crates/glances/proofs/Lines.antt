@@ -4,6 +4,7 @@ use mathlib.Core.List.{List, [], ◌∷◌, ◌++◌}
 use mathlib.Core.Bool.{Bool, true, false, cond, ◌&&◌}
 use mathlib.Core.Path.{◌≡◌, refl, sym, ap, ◌∙◌, subst}
 use native.Mathlib.Omega.{arith}
+use Rattle.std.specs.Prelude.{Option, Some, None, unwrap_or, Ok, Result}
 use lib.Arith.{digits_mod}
 use lib.Dec.{leb, eqb}
 use lib.IntN.{ℤ, pos, negsuc}
@@ -21,18 +22,19 @@ use Rattle.items.specs.declared.VisaInstruction.TheVariants.{CJump, StoreImmedia
 use Rattle.items.specs.declared.Item.TheVariants as item
 use Rattle.items.specs.Kinds.{kind_of, is_branch}
 use Rattle.encode.specs.declared.Form.{Form}
+use Rattle.refusals.specs.declared.Refusal.{Refusal}
 use Rattle.encode.specs.declared.Form.TheVariants as form
 use Rattle.encode.specs.Encoding.{form_in, form_as, form_of}
 use Rattle.encode.specs.Layouts.{layout_of, modify_layout, offset_layout, jump_layout}
 use Rattle.encode.specs.Registers.{is_pm, in_dag, mixed}
-use Rattle.rows.specs.declared.Read.TheVariants as read
-use Rattle.rows.specs.Fields.{code, index, modifier, instruction_of}
+use Rattle.rows.specs.Fields.{code, index, modifier, instruction_of, scalars, others}
 use Rattle.rows.specs.Rows.{item_of, read_of}
 use Rattle.combined.specs.declared.Glance.{Glance}
-use Rattle.combined.specs.declared.Glance.TheVariants.{Short, Pair, Word, Branch, Leaf, Other}
-use Rattle.combined.specs.Right.{Seen, Plain, Right}
+use Rattle.combined.specs.declared.Glance.TheVariants.{Pair, Word, Branch}
+use Rattle.combined.specs.Right.{Seen, Plain, Shows, Right}
 use Rattle.combined.specs.Single.{third_of, single_word}
-use Rattle.glances.specs.Glances.{fits_of, single_in}
+use Rattle.combined.proofs.Single.{chosen as of-each}
+use Rattle.glances.specs.Glances.{fits_of}
 use Rattle.glances.proofs.Fitting.{three, fits-fields, Three, reads_three}
 
 module _ (row : List ℕ) where
@@ -41,7 +43,7 @@ module _ (row : List ℕ) where
   at-kind kind = instruction_of kind (at row 1) (at row 2) (at row 3)
 
   -- a line of a kind, with its limits and its form: the limits are within the kind's bounds
-  pub record Line (kind a b c : ℕ) (f : Form) : Type 0 where
+  pub record Line (kind a b c : ℕ) (f : Result Form Refusal) : Type 0 where
     pub x : ℕ
     pub y : ℕ
     pub z : ℕ
@@ -57,7 +59,7 @@ module _ (row : List ℕ) where
 
   -- by the kind alone; of a number each is computed
   pub line_in :
-      (kind x y z a b c : ℕ) {f : Form} → at row 0 ≡ kind → a ≤ x → b ≤ y → c ≤ z
+      (kind x y z a b c : ℕ) {f : (Result Form Refusal)} → at row 0 ≡ kind → a ≤ x → b ≤ y → c ≤ z
       → filled 16 (lookup kind (varying row ++ fields) (never ∷ [])) ≡ three x y z
       → ((names : ℕ) → inside kind (at row 1) (at row 2) (at row 3) names ≡ true) → Simple kind
       → (at row 1 < suc a → at row 2 < suc b → at row 3 < suc c → form_of (at-kind kind) ≡ f) → Line kind a b c f
@@ -76,78 +78,115 @@ module _ (row : List ℕ) where
 
   -- where the limits are the bounds
   pub line :
-      (kind a b c : ℕ) {f : Form} → at row 0 ≡ kind → filled 16 (lookup kind (varying row ++ fields) (never ∷ [])) ≡ three a b c
+      (kind a b c : ℕ) {f : (Result Form Refusal)} → at row 0 ≡ kind → filled 16 (lookup kind (varying row ++ fields) (never ∷ [])) ≡ three a b c
       → ((names : ℕ) → inside kind (at row 1) (at row 2) (at row 3) names ≡ true) → Simple kind
       → (at row 1 < suc a → at row 2 < suc b → at row 3 < suc c → form_of (at-kind kind) ≡ f) → Line kind a b c f
   line kind a b c k bounds unnamed s f = line_in kind a b c a b c k (omega arith) (omega arith) (omega arith) bounds unnamed s f
 
   module _ (n : length row ≡ 17) where
-    reads-line : {kind a b c : ℕ} {f : Form} → Line kind a b c f → fits_of a b c row ≡ true → (names : ℕ) → read_of row names ≡ read.Item (item.Instruction (at-kind kind))
+    reads-line : {kind a b c : ℕ} {f : (Result Form Refusal)} → Line kind a b c f → fits_of a b c row ≡ true → (names : ℕ) → read_of row names ≡ Ok (item.Instruction (at-kind kind))
     reads-line {kind} {a} {b} {c} l t = reads_three a b c row n l.fields_are l.in_x l.in_y l.in_z t
 
     -- what a line that fits shows
-    coded : {kind a b c : ℕ} {f : Form} → Line kind a b c f → fits_of a b c row ≡ true → form_of (at-kind kind) ≡ f
+    coded : {kind a b c : ℕ} {f : (Result Form Refusal)} → Line kind a b c f → fits_of a b c row ≡ true → form_of (at-kind kind) ≡ f
     coded {kind} {a} {b} {c} l t = let h = fits-fields a b c row t in l.form_is h.0 h.1 h.2
 
-    shows : {kind a b c : ℕ} {f g : Form} → f ≡ g → Line kind a b c f → fits_of a b c row ≡ true → Seen row g
+    shows : {kind a b c : ℕ} {f g : (Result Form Refusal)} → f ≡ g → Line kind a b c f → fits_of a b c row ≡ true → Seen row g
     shows {kind} e l t = record { instruction = at-kind kind; reads = reads-line l t; encodes = coded l t ∙ e }
 
-    plain : {kind a b c : ℕ} {f g : Form} → f ≡ g → Line kind a b c f → is_branch (kind_of (at-kind kind)) ≡ false → fits_of a b c row ≡ true → Plain row g
+    plain : {kind a b c : ℕ} {f g : (Result Form Refusal)} → f ≡ g → Line kind a b c f → is_branch (kind_of (at-kind kind)) ≡ false → fits_of a b c row ≡ true → Plain row g
     plain {kind} e l s t = record { seen = record { instruction = at-kind kind; reads = reads-line l t; encodes = coded l t ∙ e }; stays = s }
-
-    by-test : {r : Glance} (g : Glance) (t : Bool) → r ≡ cond t g Other → (t ≡ true → Right row g) → Right row r
-    by-test {r} g t e h = subst (λ (x : Glance). Right row x) (sym e) (go t h)
-      where
-        go : (t : Bool) → (t ≡ true → Right row g) → Right row (cond t g Other)
-        go true h = h refl
-        go false h = tt
 
     -- a word of three parcels, of two, of one; a branch's word; the leaf return
     module _ {kind a b c w v : ℕ} (e : w ≡ v) where
-      pub worded : {r : Glance} → Line kind a b c (form.Word v) → is_branch (kind_of (at-kind kind)) ≡ false → r ≡ cond (fits_of a b c row) (Word w) Other → Right row r
-      worded l s h = by-test (Word w) (fits_of a b c row) h (plain (ap form.Word (sym e)) l s)
+      pub worded : Line kind a b c (Ok (form.Word v)) → is_branch (kind_of (at-kind kind)) ≡ false → true ≡ fits_of a b c row → Plain row (Ok (form.Word w))
+      worded l s t = plain (ap (λ (v : ℕ). Ok (form.Word v)) (sym e)) l s (sym t)
 
-      pub paired : {r : Glance} → Line kind a b c (form.Pair v) → is_branch (kind_of (at-kind kind)) ≡ false → r ≡ cond (fits_of a b c row) (Pair w) Other → Right row r
-      paired l s h = by-test (Pair w) (fits_of a b c row) h (plain (ap form.Pair (sym e)) l s)
+      pub paired : Line kind a b c (Ok (form.Pair v)) → is_branch (kind_of (at-kind kind)) ≡ false → true ≡ fits_of a b c row → Plain row (Ok (form.Pair w))
+      paired l s t = plain (ap (λ (v : ℕ). Ok (form.Pair v)) (sym e)) l s (sym t)
 
-      pub shorted : {r : Glance} → Line kind a b c (form.Short v) → is_branch (kind_of (at-kind kind)) ≡ false → r ≡ cond (fits_of a b c row) (Short w) Other → Right row r
-      shorted l s h = by-test (Short w) (fits_of a b c row) h (plain (ap form.Short (sym e)) l s)
+      pub shorted : Line kind a b c (Ok (form.Short v)) → is_branch (kind_of (at-kind kind)) ≡ false → true ≡ fits_of a b c row → Plain row (Ok (form.Short w))
+      shorted l s t = plain (ap (λ (v : ℕ). Ok (form.Short v)) (sym e)) l s (sym t)
 
-      pub branched : {r : Glance} → Line kind a b c (form.Word v) → r ≡ cond (fits_of a b c row) (Branch w) Other → Right row r
-      branched l h = by-test (Branch w) (fits_of a b c row) h (shows (ap form.Word (sym e)) l)
+      pub branched : Line kind a b c (Ok (form.Word v)) → true ≡ fits_of a b c row → Seen row (Ok (form.Word w))
+      branched l t = shows (ap (λ (v : ℕ). Ok (form.Word v)) (sym e)) l (sym t)
 
-    pub leaves : {kind a b c : ℕ} {r : Glance} → Line kind a b c form.Leaf → r ≡ cond (fits_of a b c row) Leaf Other → Right row r
-    leaves {kind} {a} {b} {c} l h = by-test Leaf (fits_of a b c row) h (shows refl l)
+    pub leaves : {kind a b c : ℕ} → Line kind a b c (Ok form.Leaf) → true ≡ fits_of a b c row → Seen row (Ok form.Leaf)
+    leaves {kind} {a} {b} {c} l t = shows refl l (sym t)
 
     -- a single compute, by its own table
-    pub singled : (kind : ℕ) {r : Glance} → at row 0 ≡ kind → Line kind 15 15 (third_of kind) (form.Word (single_word kind (at row 1) (at row 2) (at row 3))) → is_branch (kind_of (at-kind kind)) ≡ false → r ≡ single_in row → Right row r
-    unfolding single_in
-    singled kind k l s e = worded refl l s (rw k at e)
+    abbrev Computing : ℕ → Type 0
+    Computing kind =
+        at row 0 ≡ kind →
+        Line kind 15 15 (unwrap_or (third_of kind) 0) (Ok (form.Word (unwrap_or (single_word kind (at row 1) (at row 2) (at row 3)) 0))) × (is_branch (kind_of (at-kind kind)) ≡ false)
+
+    computing : {most : ℕ} → third_of (at row 0) ≡ Some most → Computing (at row 0)
+    unfolding fields instruction_of scalars others layout_of form_of third_of single_word
+    computing known =
+        of-each Computing (at row 0) (
+          (λ k. (line 0 15 15 15 k refl (λ _. refl) (refl, refl, refl, refl, refl, refl, refl) (λ _ _ _. refl), refl)),
+          (
+            (λ k. (line 1 15 15 15 k refl (λ _. refl) (refl, refl, refl, refl, refl, refl, refl) (λ _ _ _. refl), refl)),
+            (
+              (λ k. (line 2 15 15 15 k refl (λ _. refl) (refl, refl, refl, refl, refl, refl, refl) (λ _ _ _. refl), refl)),
+              (
+                (λ k. (line 3 15 15 15 k refl (λ _. refl) (refl, refl, refl, refl, refl, refl, refl) (λ _ _ _. refl), refl)),
+                (
+                  (λ k. (line 4 15 15 15 k refl (λ _. refl) (refl, refl, refl, refl, refl, refl, refl) (λ _ _ _. refl), refl)),
+                  (
+                    (λ k. (line 5 15 15 0 k refl (λ _. refl) (refl, refl, refl, refl, refl, refl, refl) (λ _ _ _. refl), refl)),
+                    (
+                      (λ k. (line 6 15 15 0 k refl (λ _. refl) (refl, refl, refl, refl, refl, refl, refl) (λ _ _ _. refl), refl)),
+                      (
+                        (λ k. (line 7 15 15 15 k refl (λ _. refl) (refl, refl, refl, refl, refl, refl, refl) (λ _ _ _. refl), refl)),
+                        (
+                          (λ k. (line 8 15 15 0 k refl (λ _. refl) (refl, refl, refl, refl, refl, refl, refl) (λ _ _ _. refl), refl)),
+                          (
+                            (λ k. (line 25 15 15 0 k refl (λ _. refl) (refl, refl, refl, refl, refl, refl, refl) (λ _ _ _. refl), refl)),
+                            (
+                              (λ k. (line 26 15 15 0 k refl (λ _. refl) (refl, refl, refl, refl, refl, refl, refl) (λ _ _ _. refl), refl)),
+                              (
+                                (λ k. (line 27 15 15 0 k refl (λ _. refl) (refl, refl, refl, refl, refl, refl, refl) (λ _ _ _. refl), refl)),
+                                tt,
+                              ),
+                            ),
+                          ),
+                        ),
+                      ),
+                    ),
+                  ),
+                ),
+              ),
+            ),
+          ),
+        ) known
+
+    pub singled :
+        {most w : ℕ} → third_of (at row 0) ≡ Some most → single_word (at row 0) (at row 1) (at row 2) (at row 3) ≡ Some w
+        → true ≡ fits_of 15 15 most row → Plain row (Ok (form.Word w))
+    singled {most} {w} known made t =
+        let l = computing known refl in
+        worded (sym (ap (λ (o : Option ℕ). unwrap_or o 0) made))
+        (subst (λ (m : ℕ). Line (at row 0) 15 15 m (Ok (form.Word (unwrap_or (single_word (at row 0) (at row 1) (at row 2) (at row 3)) 0)))) (ap (λ (o : Option ℕ). unwrap_or o 0) known) l.0) l.1 t
 
     -- near or far; within reach or not seen; of one DAG or not seen
     pub chosen :
-        (near : Bool) (v w : ℕ) {kind a b c : ℕ} {r : Glance} → Line kind a b c (cond near (form.Pair v) (form.Word w)) → is_branch (kind_of (at-kind kind)) ≡ false
-        → r ≡ cond (fits_of a b c row) (cond near (Pair v) (Word w)) Other → Right row r
-    chosen true v w l s e = paired refl l s e
-    chosen false v w l s e = worded refl l s e
+        (near : Bool) (v w : ℕ) {kind a b c : ℕ} {g : Glance} → Line kind a b c (cond near (Ok (form.Pair v)) (Ok (form.Word w))) → is_branch (kind_of (at-kind kind)) ≡ false
+        → true ≡ fits_of a b c row → g ≡ cond near (Pair v) (Word w) → Shows row g
+    chosen true v w l s t e = rw e (paired refl l s t)
+    chosen false v w l s t e = rw e (worded refl l s t)
 
-    pub reached : (near : Bool) (w : ℕ) {kind a b c : ℕ} {r : Glance} → (near ≡ true → Line kind a b c (form.Word w)) → r ≡ cond (fits_of a b c row) (cond near (Branch w) Other) Other → Right row r
-    reached true w l e = branched refl (l refl) e
-    reached false w {kind} {a} {b} {c} l e = by-test Other (fits_of a b c row) e (λ t. tt)
+    pub reached :
+        (near : Bool) (w : ℕ) {kind a b c : ℕ} {o : Option Glance} → (near ≡ true → Line kind a b c (Ok (form.Word w)))
+        → true ≡ fits_of a b c row → o ≡ cond near (Some (Branch w)) None → Right row o
+    reached true w l t e = rw e (branched refl (l refl) t)
+    reached false w l t e = rw e tt
 
     pub unmixed :
-        (clash : Bool) (w : ℕ) {kind a b c : ℕ} {r : Glance} → (clash ≡ false → Line kind a b c (form.Word w)) → is_branch (kind_of (at-kind kind)) ≡ false
-        → r ≡ cond (fits_of a b c row) (cond clash Other (Word w)) Other → Right row r
-    unmixed true w {kind} {a} {b} {c} l s e = by-test Other (fits_of a b c row) e (λ t. tt)
-    unmixed false w l s e = worded refl (l refl) s e
-
-  -- what a further test leaves out is not seen
-  pub barred : {r : Glance} (g : Glance) (t : Bool) → r ≡ cond t Other g → (t ≡ false → Right row g) → Right row r
-  barred {r} g t e h = subst (λ (x : Glance). Right row x) (sym e) (go t h)
-    where
-      go : (t : Bool) → (t ≡ false → Right row g) → Right row (cond t Other g)
-      go true h = tt
-      go false h = h refl
+        (clash : Bool) (w : ℕ) {kind a b c : ℕ} {o : Option Glance} → (clash ≡ false → Line kind a b c (Ok (form.Word w))) → is_branch (kind_of (at-kind kind)) ≡ false
+        → true ≡ fits_of a b c row → o ≡ cond clash None (Some (Word w)) → Right row o
+    unmixed true w l s t e = rw e tt
+    unmixed false w l s t e = rw e (worded refl (l refl) s t)
 
 -- ---- within the limits the tests of the refusals are false
 kept : (v most : ℕ) → v < suc most → most < 256 → v % 256 ≡ v
@@ -161,33 +200,33 @@ no_dag : (v : ℕ) → v < 16 → in_dag (v % 256) false ≡ false
 unfolding in_dag
 no_dag v h = let z : v / 16 ≡ 0 = omega arith in rw (kept v 15 h (omega arith), z)
 
-pub post_form : (store : Bool) (a b c : ℕ) → a < 16 → b < 8 → c < 8 → form_as (modify_layout (code a) (index b) (modifier c) store true) ≡ form.Short (pack (modify3c (a % 256) (b % 256) (c % 256) (bit_of store)))
+pub post_form : (store : Bool) (a b c : ℕ) → a < 16 → b < 8 → c < 8 → form_as (modify_layout (code a) (index b) (modifier c) store true) ≡ Ok (form.Short (pack (modify3c (a % 256) (b % 256) (c % 256) (bit_of store))))
 post_form true a b c p q r = rw (low b 7 q (omega arith), low c 7 r (omega arith), no_dag a p, low a 15 p (omega arith))
 post_form false a b c p q r = rw (low b 7 q (omega arith), low c 7 r (omega arith), low a 15 p (omega arith))
 
-pub pre_form : (store : Bool) (a b c : ℕ) → (store && in_dag (a % 256) false) ≡ false → b < 8 → c < 8 → form_as (modify_layout (code a) (index b) (modifier c) store false) ≡ form.Pair (pack (modify3b (a % 256) (b % 256) (c % 256) (bit_of store)))
+pub pre_form : (store : Bool) (a b c : ℕ) → (store && in_dag (a % 256) false) ≡ false → b < 8 → c < 8 → form_as (modify_layout (code a) (index b) (modifier c) store false) ≡ Ok (form.Pair (pack (modify3b (a % 256) (b % 256) (c % 256) (bit_of store))))
 pre_form store a b c p q r = rw (low b 7 q (omega arith), low c 7 r (omega arith), p)
 
 pub access-form :
     (store : Bool) (a b : ℕ) (z : ℤ) → (store && in_dag (a % 256) false) ≡ false → b < 8
     → form_as (offset_layout (code a) (index b) z store)
-    ≡ cond (in_range (negsuc 63) (pos 63) z) (form.Pair (pack (offset15b (a % 256) (b % 256) (folded 7 z) (bit_of store)))) (form.Word (pack (offset15a (a % 256) (b % 256) (folded 32 z) (bit_of store))))
+    ≡ cond (in_range (negsuc 63) (pos 63) z) (Ok (form.Pair (pack (offset15b (a % 256) (b % 256) (folded 7 z) (bit_of store))))) (Ok (form.Word (pack (offset15a (a % 256) (b % 256) (folded 32 z) (bit_of store)))))
 access-form store a b z p q = rw (low b 7 q (omega arith), p) (go (in_range (negsuc 63) (pos 63) z))
   where
     go :
         (t : Bool) →
         form_in (cond t 2 3) (pack (cond t (offset15b (a % 256) (b % 256) (folded 7 z) (bit_of store)) (offset15a (a % 256) (b % 256) (folded 32 z) (bit_of store))))
-        ≡ cond t (form.Pair (pack (offset15b (a % 256) (b % 256) (folded 7 z) (bit_of store)))) (form.Word (pack (offset15a (a % 256) (b % 256) (folded 32 z) (bit_of store))))
+        ≡ cond t (Ok (form.Pair (pack (offset15b (a % 256) (b % 256) (folded 7 z) (bit_of store))))) (Ok (form.Word (pack (offset15a (a % 256) (b % 256) (folded 32 z) (bit_of store)))))
     go true = refl
     go false = refl
 
-pub jump-form : (condition : Condition) (z : ℤ) (delayed : Bool) → in_range (negsuc 0x7f_ffff) (pos 0x7f_ffff) z ≡ true → form_as (jump_layout condition z delayed) ≡ form.Word (pack (jump8a (condition_code condition) (bit_of delayed) (folded 24 z)))
+pub jump-form : (condition : Condition) (z : ℤ) (delayed : Bool) → in_range (negsuc 0x7f_ffff) (pos 0x7f_ffff) z ≡ true → form_as (jump_layout condition z delayed) ≡ Ok (form.Word (pack (jump8a (condition_code condition) (bit_of delayed) (folded 24 z))))
 jump-form condition z delayed t = rw t
 
-pub call-form : (target : ℕ) → target < 0x100_0000 → form_of (CJump target) ≡ form.Word (pack (call25a target))
+pub call-form : (target : ℕ) → target < 0x100_0000 → form_of (CJump target) ≡ Ok (form.Word (pack (call25a target)))
 unfolding form_of layout_of
 call-form target h = rw (le-ltb 0xff_ffff target (omega (arith, h)))
 
-pub immediate_form : (a b value : ℕ) → mixed (a % 256) (b % 256) ≡ false → form_of (StoreImmediate (index a) (modifier b) value) ≡ form.Word (pack (store16a (a % 256 % 8) (b % 256 % 8) (bit_of (is_pm (a % 256))) value))
+pub immediate_form : (a b value : ℕ) → mixed (a % 256) (b % 256) ≡ false → form_of (StoreImmediate (index a) (modifier b) value) ≡ Ok (form.Word (pack (store16a (a % 256 % 8) (b % 256 % 8) (bit_of (is_pm (a % 256))) value)))
 unfolding form_of layout_of
 immediate_form a b value h = rw h

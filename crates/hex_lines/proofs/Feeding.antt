@@ -1,60 +1,75 @@
 -- What is still to be fed gives, from here, what all of it gives from the start.
 use mathlib.Core.Path.{◌≡◌, refl, sym, ap, subst, ◌∙◌}
-use mathlib.Core.Bool.{true}
+use mathlib.Core.Bool.{true, false≢true}
 use mathlib.Core.List.{List, ◌++◌}
 use Prim.Native.Nat.{ℕ, ◌+◌, ◌≤◌, ◌<◌}
 use native.Mathlib.Omega.{arith}
 use native.Mathlib.Numerals.{add-one}
-use lib.ListN.{length, get_or, drop}
+use lib.ListN.{length, get_or, drop, length-take}
 use lib.Seq.{drop-cons, drop-length}
+use Rattle.std.specs.Borrow.{Bor}
+use Rattle.std.specs.Prelude.{Result, Ok, Err, is_err}
+use Rattle.hex_lines.specs.declared.Place.{Place}
 use Rattle.hex_lines.specs.declared.Reader.{Reader}
-use Rattle.hex_lines.specs.declared.Reading.{Reading}
+use Rattle.reader.specs.declared.Unread.{Unread}
 use Rattle.hex_lines.specs.Parcels.{said}
-use Rattle.hex_lines.specs.Steps.{Fine, Mem, mem, turn_of, run, ended, reading_of, Has, HasSome, Tells}
-use Rattle.hex_lines.proofs.Turns.{run-append, run-unread}
+use Rattle.hex_lines.specs.Steps.{FineIn, turn_of, run, ended, ReadsIn, Reads, Has, HasSome, Tells, Within}
+use Rattle.hex_lines.proofs.Turns.{run-append, stays-unread}
 use Rattle.hex_lines.proofs.Keeps.{start_fine, turn-fine, run-fine, ended-fine}
 use Rattle.hex_lines.proofs.Whole.{told}
 
-abbrev FineMem : Mem → Type 0
-FineMem m = Fine m.reader
+pub has-fine : (s : Reader) → HasSome s → FineIn s.place
+has-fine s h = subst (λ (m : Reader). FineIn m.place) (sym h.1.here) (run-fine _ h.0 (start_fine 0 0 (omega arith) (omega arith)))
 
-pub has-fine : (s : Reader) (ps : List ℕ) → HasSome s ps → Fine s
-has-fine s ps h = subst FineMem (sym h.1.here) (run-fine _ h.0 (start_fine 0 0 (omega arith) (omega arith)))
-
-pub has_more : (past chunk : List ℕ) {s r : Reader} {ps ps' : List ℕ} → mem r ps' ≡ run (mem s ps) chunk → Has past s ps → Has (past ++ chunk) r ps'
-has_more past chunk e h = record { here = e ∙ ap (λ (m : Mem). run m chunk) h.here ∙ sym (run-append _ past chunk) }
+pub has_more : (past chunk : List ℕ) {s r : Reader} → r ≡ run s chunk → Has past s → Has (past ++ chunk) r
+has_more past chunk e h = record { here = e ∙ ap (λ (m : Reader). run m chunk) h.here ∙ sym (run-append _ past chunk) }
 
 -- an unread line stays so, whatever follows: nothing more need be read
-pub has-unread : (past rest : List ℕ) (s : Reader) (ps : List ℕ) → s.unread ≡ true → Has past s ps → Has (past ++ rest) s ps
-has-unread past rest s ps u h = has_more past rest (sym (run-unread (mem s ps) rest u)) h
+pub has-unread : (past rest : List ℕ) (s : Reader) (u : Unread) → s.place ≡ Err u → Has past s → Has (past ++ rest) s
+has-unread past rest s u e h = has_more past rest (sym (stays-unread s u rest e)) h
+
+pub over : (s : Reader) → is_err s.place ≡ true → (past rest : List ℕ) → Has past s → Has (past ++ rest) s
+over s e past rest h = by s.place refl
+  where
+    by : (p : Result Place Unread) → s.place ≡ p → Has (past ++ rest) s
+    by (Ok p) f = absurd (false≢true (ap is_err (sym f) ∙ e))
+    by (Err u) f = has-unread past rest s u f h
 
 -- ---- the loop
-pub record Feeding (m : Mem) (chunk : List ℕ) (i : ℕ) (s : Reader) (ps : List ℕ) : Type 0 where
+pub record Feeding (m : Reader) (chunk : List ℕ) (i : ℕ) (s : Reader) : Type 0 where
   pub within : i ≤ length chunk
-  pub here : run (mem s ps) (drop i chunk) ≡ run m chunk
-  pub fine : Fine s
+  pub here : run s (drop i chunk) ≡ run m chunk
+  pub fine : FineIn s.place
 
-pub feeding_start : (s : Reader) (ps chunk : List ℕ) → HasSome s ps → Feeding (mem s ps) chunk 0 s ps
-feeding_start s ps chunk h = record { within = omega arith; here = refl; fine = has-fine s ps h }
+pub feeding_start : (s : Reader) (chunk : List ℕ) → HasSome s → Feeding s chunk 0 s
+feeding_start s chunk h = record { within = omega arith; here = refl; fine = has-fine s h }
 
-pub feeding_next : (m : Mem) (chunk : List ℕ) (i : ℕ) (s : Reader) (ps : List ℕ) → Feeding m chunk i s ps → i < length chunk
-    → {s' : Reader} {ps' : List ℕ} → mem s' ps' ≡ turn_of (mem s ps) (get_or chunk i 0) → Feeding m chunk (i + 1) s' ps'
-feeding_next m chunk i s ps g h e =
+pub feeding_next : (m : Reader) (chunk : List ℕ) (i : ℕ) (s : Reader) → Feeding m chunk i s → i < length chunk → {s' : Reader} → s' ≡ turn_of s (get_or chunk i 0) → Feeding m chunk (i + 1) s'
+feeding_next m chunk i s g h e =
     record {
       within = omega arith;
-      here = rw (e, add-one) (ap (λ (l : List ℕ). run (mem s ps) l) (sym (drop-cons chunk i 0 h)) ∙ g.here);
-      fine = subst FineMem (sym e) (turn-fine (mem s ps) (get_or chunk i 0) g.fine);
+      here = rw (e, add-one) (ap (λ (l : List ℕ). run s l) (sym (drop-cons chunk i 0 h)) ∙ g.here);
+      fine = subst (λ (m : Reader). FineIn m.place) (sym e) (turn-fine s (get_or chunk i 0) g.fine);
     }
 
-pub feeding_end : (m : Mem) (chunk : List ℕ) (i : ℕ) (s : Reader) (ps : List ℕ) → Feeding m chunk i s ps → length chunk ≤ i → mem s ps ≡ run m chunk
-feeding_end m chunk i s ps g h =
+pub feeding_end : (m : Reader) (chunk : List ℕ) (i : ℕ) (s : Reader) → Feeding m chunk i s → length chunk ≤ i → s ≡ run m chunk
+feeding_end m chunk i s g h =
     let e : i ≡ length chunk = omega (arith, g.within) in
-    ap (λ (l : List ℕ). run (mem s ps) l) (sym (ap (λ (k : ℕ). drop k chunk) e ∙ drop-length chunk)) ∙ g.here
+    ap (λ (l : List ℕ). run s l) (sym (ap (λ (k : ℕ). drop k chunk) e ∙ drop-length chunk)) ∙ g.here
 
 -- ---- the end of the input
-pub ends-fine : (s : Reader) (ps : List ℕ) → HasSome s ps → {s' : Reader} {ps' : List ℕ} → mem s' ps' ≡ ended (mem s ps) → Fine s'
-ends-fine s ps h e = subst FineMem (sym e) (ended-fine (mem s ps) (has-fine s ps h))
+pub ends-fine : (s : Reader) → HasSome s → {s' : Reader} → s' ≡ ended s → FineIn s'.place
+ends-fine s h e = subst (λ (m : Reader). FineIn m.place) (sym e) (ended-fine s (has-fine s h))
 
-pub tells : (s : Reader) (ps : List ℕ) {s' : Reader} {ps' : List ℕ} → mem s' ps' ≡ ended (mem s ps) → {r : Reading} → r ≡ reading_of s' → (input : List ℕ) → Has input s ps → Tells (said input) r ps'
-tells s ps e f input h =
-    rw f (subst (λ (m : Mem). Tells (said input) (reading_of m.reader) m.buffer) (sym (e ∙ ap ended h.here)) (told input))
+pub tells : (s : Reader) {s' : Reader} → s' ≡ ended s → (r : Result (Bor (List ℕ)) Unread) → Reads s' r → (input : List ℕ) → Has input s → Tells (said input) r
+tells s e r f input h = told input r (subst (λ (m : Reader). Reads m r) (e ∙ ap ended h.here) f)
+
+-- what it comes to is no more than there is room for
+pub within : (s : Reader) → FineIn s.place → (r : Result (Bor (List ℕ)) Unread) → Reads s r → Within r
+within s f r h = by s.place f r h
+  where
+    by : (p : Result Place Unread) → FineIn p → (r : Result (Bor (List ℕ)) Unread) → ReadsIn p s.parcels r → Within r
+    by (Ok p) f (Ok r) h = rw (h, length-take p.parcels s.parcels) (omega (arith, f.parcels))
+    by (Ok p) f (Err e) h = absurd h
+    by (Err u) f (Ok r) h = absurd h
+    by (Err u) f (Err e) h = rw h f

@@ -7,9 +7,7 @@ use native.Mathlib.Omega.{arith}
 use lib.Dec.{leb}
 use borrow.Author.Tests.{lt-ltb, le-ltb, le-leb, lt-leb}
 use Rattle.reader.proofs.Values.{and_false}
-use Rattle.hex_lines.specs.declared.Reader.{Reader}
 use Rattle.hex_lines.specs.Parcels.{hex_value, is_hex}
-use Rattle.hex_lines.specs.Steps.{Fine}
 
 -- ---- whether a byte lies from a to z
 pub inside : (a z b : ℕ) → a ≤ b → b ≤ z → (leb a b && leb b z) ≡ true
@@ -28,9 +26,6 @@ hex b e h = lt-ltb (hex_value b) 16 (rw e at h)
 pub no-hex : (b : ℕ) {d : ℕ} → d ≡ hex_value b → 16 ≤ d → is_hex b ≡ false
 no-hex b e h = le-ltb (hex_value b) 16 (rw e at h)
 
--- ---- four digits are a parcel, and fewer leave room for one more
-pub whole : (s : Reader) → Fine s → s.at ≡ 4 → s.value < 2 ^ 16
-whole s f e = rw e at (f.small (omega arith))
-
-pub more : (s : Reader) → Fine s → s.at < 4 → s.value < 2 ^ 12
-more s f h = omega (arith, f.small (omega arith), pow-le-pow_right {n = 16} (omega arith) {i = s.at} {j = 3} (omega arith))
+-- ---- fewer than four digits leave room for one more
+pub more : (n v : ℕ) → v < 16 ^ n → n < 4 → v < 2 ^ 12
+more n v f h = omega (arith, f, pow-le-pow_right {n = 16} (omega arith) {i = n} {j = 3} (omega arith))

@@ -1,24 +1,22 @@
-// Standard input to its end.
-ghost use Rattle.hex_lines.specs.Steps.{HasSome};
+// Standard input to its end, by the bench program's loop over it.
+ghost use Rattle.hex_lines.specs.Steps.{Has};
 
 use crate::Reader;
-use reader::input::read_some;
+use reader::input::Feed;
 
-// All of standard input. After an unread line, which nothing that follows can mend, nothing more is read. A proved loop has to end, so
-// it counts its reads up to a number that no run uses up.
-pub fn read_all(rt: &HostRuntime, buf: &mut [u8], parcels: &mut [u16; 3072]) -> Reader
-    ensures { HasSome result parcels.new }
-{
-    let mut reader = Reader::new(parcels);
-    for _ in 0..u64::MAX {
-        let n = read_some(rt, buf);
-        if n == 0 {
-            break;
-        }
-        reader = reader.feed(&buf[..n], parcels);
-        if reader.unread {
-            break;
-        }
+impl Feed for Reader {
+    ghost has = { Has };
+
+    fn start() -> Reader {
+        Reader::new()
     }
-    reader
+
+    fn take(&mut self, chunk: &[u8]) {
+        self.feed(chunk);
+    }
+
+    #[tactic(auto, using(crate::proofs::Feeding::over))]
+    fn is_over(&self) -> bool {
+        self.place.is_err()
+    }
 }

@@ -3,267 +3,249 @@
 
 pub mod input;
 
-ghost use Rattle.std.specs.Prelude.{◌≡◌, List, [], ◌++◌, ℕ, ◌<◌, ◌≤◌};
-ghost use Rattle.hex_lines.specs.Parcels.{hex_value, said};
-ghost use Rattle.hex_lines.specs.Steps.{Fine, line_start, failed, digit_of, begin_of, word_of, count_of, head_of, byte_of, mem, end_of, turn_of, ended, reading_of, Has, HasSome, Tells, Within};
+ghost use Rattle.std.specs.Prelude.{◌≡◌, List, [], ◌++◌, ℕ, ◌<◌, ◌≤◌, ◌^◌, IfSome};
+ghost use Rattle.hex_lines.specs.Parcels.{said};
+ghost use Rattle.hex_lines.specs.Steps.{hex_digit, Fine, FineIn, line_start, unread_line, is_begun, digit_of, begin_of, word_of, count_of, byte_of, mem, end_of, turn_at, turn_of, ended, Reads, Has, HasSome, Tells, Within};
 
-// Where a reader stands in its input.
+use reader::Unread;
+
+// What the line at hand has so far.
 #[derive(Clone, Copy)]
-pub struct Reader {
+pub enum Part {
+    // So many digits of a parcel, and their value.
+    Digits(usize, u32),
+    // `o`.
+    LetterO,
+    // `ok`.
+    Word,
+    // `ok`, a tab, and the value of the digits of a count, if it has one.
+    Count(Option<u32>),
+}
+
+// A place in an input. What holds of it, `Fine`, stands in the contracts: a type with an invariant has no `..self`.
+#[derive(Clone, Copy)]
+pub struct Place {
     // The lines passed over, and the parcels read.
     pub passed: usize,
     pub parcels: usize,
-    // What this line has so far: so many digits of a parcel; or `o` (5), `ok` (6), `ok` and a tab (7), a digit of the count too (8).
-    pub at: usize,
-    // The value of its digits.
-    pub value: u32,
-    // Whether it is unread.
-    pub unread: bool,
+    // What this line has so far.
+    pub part: Part,
 }
 
-// What an input says: how many parcels, or the first line that is unread.
-#[derive(Clone, Copy)]
-pub enum Reading {
-    Read(usize),
-    Unread(usize),
+// A reader: its place in the line at hand, or past one that is unread; and the parcels of the lines before, with zeros after them.
+#[derive(Drop)]
+pub struct Reader {
+    pub place: Result<Place, Unread>,
+    pub parcels: [u16; 3072],
 }
 
-// The value of a hex digit; 16 of any other byte.
+// The value of a hex digit.
 #[tactic(auto, unfolding(crate::specs::Parcels::hex_value))]
-fn hex_value(b: u8) -> u32
-    ensures { (result ≡ hex_value b) × (result ≤ 16) }
+fn hex_digit(b: u8) -> Option<u32>
+    ensures value { result ≡ hex_digit b }
+    ensures below { IfSome result (λ d. d < 16) }
 {
-    if b < 48 {
-        return 16;
-    }
-    if b <= 57 {
-        return (b - 48) as u32;
-    }
-    if b < 65 {
-        return 16;
-    }
-    if b <= 70 {
-        return (b - 55) as u32;
-    }
-    if b < 97 {
-        return 16;
-    }
-    if b <= 102 {
-        return (b - 87) as u32;
-    }
-    16
+    char::from(b).to_digit(16)
 }
 
-impl Reader {
+impl Place {
     // The start of a line, after so many lines passed over and parcels.
-    fn line_start(passed: usize, parcels: usize) -> Reader
+    fn line_start(passed: usize, parcels: usize) -> Place
         ensures { result ≡ line_start passed parcels }
     {
-        Reader {
+        Place {
             passed,
             parcels,
-            at: 0,
-            value: 0,
-            unread: false,
+            part: Part::Digits(0, 0),
         }
     }
 
-    // The line at hand is unread.
-    #[tactic(auto, unfolding(crate::specs::Steps::failed))]
-    fn failed(self) -> Reader
-        ensures { result ≡ failed self }
-    {
-        let mut s = self;
-        s.unread = true;
-        s
-    }
-
-    // A byte of a parcel.
-    #[tactic(auto, using(crate::proofs::Ranges::more), unfolding(crate::specs::Steps::digit_of, crate::specs::Steps::failed))]
-    fn digit(self, b: u8) -> Reader
+    // The line at hand, as one that is unread.
+    fn unread(self) -> Unread
         requires { Fine self }
-        ensures { result ≡ digit_of self b }
+        ensures { result ≡ unread_line self }
     {
-        let d = hex_value(b);
-        if 16 <= d {
-            return self.failed();
+        Unread {
+            line: self.passed + self.parcels + 1,
         }
-        if 4 <= self.at {
-            return self.failed();
+    }
+
+    // Whether the line at hand has a byte.
+    fn is_begun(self) -> bool
+        ensures { result ≡ is_begun self.part }
+    {
+        match self.part {
+            Part::Digits(count, _) => 0 < count,
+            _ => true,
         }
-        let mut s = self;
-        s.at += 1;
-        s.value = self.value * 16 + d;
-        s
+    }
+
+    // A byte of a parcel, after digits with this count and value.
+    #[tactic(auto, unfolding(crate::specs::Steps::digit_of))]
+    fn digit(self, count: usize, value: u32, b: u8) -> Result<Place, Unread>
+        requires { (Fine self) × (value < 16 ^ count) }
+        ensures { result ≡ digit_of self count value b }
+    {
+        let Some(digit) = hex_digit(b) else {
+            return Err(self.unread());
+        };
+        if 4 <= count {
+            return Err(self.unread());
+        }
+        Ok(Place {
+            part: Part::Digits(count + 1, value * 16 + digit),
+            ..self
+        })
     }
 
     // `o`, which begins the line of a count if it is the first byte of all.
-    #[tactic(auto, unfolding(crate::specs::Steps::begin_of, crate::specs::Steps::failed))]
-    fn begin(self) -> Reader
-        requires { (Fine self) × (self.at < 5) }
-        ensures { result ≡ begin_of self }
+    #[tactic(auto, unfolding(crate::specs::Steps::begin_of))]
+    fn begin(self, count: usize) -> Result<Place, Unread>
+        requires { (Fine self) × (count ≤ 4) }
+        ensures { result ≡ begin_of self count }
     {
-        if self.passed + self.parcels + self.at != 0 {
-            return self.failed();
+        if self.passed + self.parcels + count != 0 {
+            return Err(self.unread());
         }
-        let mut s = self;
-        s.at = 5;
-        s.value = 0;
-        s
+        Ok(Place {
+            part: Part::LetterO,
+            ..self
+        })
     }
 
-    // The byte that is wanted, and the place after it.
-    #[tactic(auto, unfolding(crate::specs::Steps::word_of, crate::specs::Steps::failed))]
-    fn word(self, b: u8, wanted: u8, next: usize) -> Reader
-        ensures { result ≡ word_of self b wanted next }
+    // The byte that is wanted, and what the line has with it.
+    #[tactic(auto, unfolding(crate::specs::Steps::word_of))]
+    fn word(self, b: u8, wanted: u8, part: Part) -> Result<Place, Unread>
+        requires { Fine self }
+        ensures { result ≡ word_of self b wanted part }
     {
         if b != wanted {
-            return self.failed();
+            return Err(self.unread());
         }
-        let mut s = self;
-        s.at = next;
-        s.value = 0;
-        s
+        Ok(Place { part, ..self })
     }
 
-    // A byte of a count.
-    #[tactic(auto, unfolding(crate::specs::Steps::count_of, crate::specs::Steps::failed))]
-    fn count(self, b: u8) -> Reader
-        ensures { result ≡ count_of self b }
+    // A byte of a count, after digits with this value.
+    fn count(self, value: Option<u32>, b: u8) -> Result<Place, Unread>
+        requires { Fine self }
+        ensures { result ≡ count_of self value b }
     {
-        if b < 48 {
-            return self.failed();
-        }
-        if 57 < b {
-            return self.failed();
-        }
-        let v = (self.value as u64) * 10 + ((b - 48) as u64);
-        if 0x1_0000_0000 <= v {
-            return self.failed();
-        }
-        let mut s = self;
-        s.at = 8;
-        s.value = v as u32;
-        s
-    }
-
-    // A byte of a line that begins with `o`.
-    #[tactic(auto, unfolding(crate::specs::Steps::head_of))]
-    fn head(self, b: u8) -> Reader
-        ensures { result ≡ head_of self b }
-    {
-        if self.at == 5 {
-            return self.word(b, 107, 6);
-        }
-        if self.at == 6 {
-            return self.word(b, 9, 7);
-        }
-        self.count(b)
+        let Some(value) = reader::with_digit(value, b) else {
+            return Err(self.unread());
+        };
+        Ok(Place {
+            part: Part::Count(Some(value)),
+            ..self
+        })
     }
 
     // A byte of a line.
-    #[tactic(auto, unfolding(crate::specs::Steps::byte_of))]
-    fn byte(self, b: u8) -> Reader
+    #[tactic(auto, unfolding(crate::specs::Steps::byte_in))]
+    fn byte(self, b: u8) -> Result<Place, Unread>
         requires { Fine self }
         ensures { result ≡ byte_of self b }
     {
-        if 5 <= self.at {
-            return self.head(b);
+        match self.part {
+            Part::Digits(count, _) if b == b'o' => self.begin(count),
+            Part::Digits(count, value) => self.digit(count, value, b),
+            Part::LetterO => self.word(b, b'k', Part::Word),
+            Part::Word => self.word(b, b'\t', Part::Count(None)),
+            Part::Count(value) => self.count(value, b),
         }
-        if b == 111 {
-            return self.begin();
-        }
-        self.digit(b)
     }
 
     // Byte 10: the line is over.
-    #[tactic(auto, unfolding(crate::specs::Steps::end_of, crate::specs::Steps::failed))]
-    fn end(self, parcels: &mut [u16; 3072]) -> Reader
+    #[tactic(auto, unfolding(crate::specs::Steps::end_in))]
+    fn end(self, parcels: &mut [u16; 3072]) -> Result<Place, Unread>
         requires { Fine self }
         ensures { mem result parcels.new ≡ end_of self parcels.old }
     {
-        if self.at == 8 {
-            return Reader::line_start(1, self.parcels);
+        match self.part {
+            Part::Count(Some(_)) => Ok(Place::line_start(1, self.parcels)),
+            Part::Digits(4, value) if self.parcels < 3072 => {
+                parcels[self.parcels] = value as u16;
+                Ok(Place::line_start(self.passed, self.parcels + 1))
+            }
+            _ => Err(self.unread()),
         }
-        if self.at != 4 {
-            return self.failed();
-        }
-        let place = self.parcels;
-        if 3072 <= place {
-            return self.failed();
-        }
-        parcels[place] = self.value as u16;
-        Reader::line_start(self.passed, place + 1)
     }
 
     // Any byte.
-    #[tactic(auto, unfolding(crate::specs::Steps::turn_of))]
-    fn turn(self, b: u8, parcels: &mut [u16; 3072]) -> Reader
+    #[tactic(auto, unfolding(crate::specs::Steps::turn_at))]
+    fn turn(self, b: u8, parcels: &mut [u16; 3072]) -> Result<Place, Unread>
         requires { Fine self }
-        ensures { mem result parcels.new ≡ turn_of (mem self parcels.old) b }
+        ensures { mem result parcels.new ≡ turn_at self parcels.old b }
     {
-        if self.unread {
-            return self;
-        }
-        if b == 10 {
+        if b == b'\n' {
             return self.end(parcels);
         }
         self.byte(b)
     }
+}
 
-    // A reader that has read nothing; it leaves zeros in the buffer.
-    pub fn new(parcels: &mut [u16; 3072]) -> Reader
-        ensures { Has [] result parcels.new }
+// These are the bench program's reader's methods at another line and another result. One generic reader is no plainer: what it has read
+// borrows from it, so a trait would have to name a type with a lifetime, which the language lacks.
+impl Reader {
+    // A reader that has read nothing.
+    pub fn new() -> Reader
+        ensures { Has [] result }
     {
-        *parcels = [0; 3072];
-        Reader::line_start(0, 0)
+        Reader {
+            place: Ok(Place::line_start(0, 0)),
+            parcels: [0; 3072],
+        }
     }
 
-    // A chunk of the input is read: what it says so far is in the buffer.
-    pub fn feed(self, chunk: &[u8], parcels: &mut [u16; 3072]) -> Reader
-        requires { HasSome self parcels.old }
-        ensures { (past : List ℕ) → Has past self parcels.old → Has (past ++ chunk.now) result parcels.new }
+    // One byte; past an unread line nothing is read.
+    #[tactic(auto, unfolding(crate::specs::Steps::turn_of))]
+    fn turn(&mut self, b: u8)
+        requires { FineIn self.old.place }
+        ensures { self.new ≡ turn_of self.old b }
     {
-        let mut s = self;
-        let mut i = 0;
-        while i < chunk.len() {
-            s = s.turn(chunk[i], parcels);
-            i += 1;
+        if let Ok(place) = self.place {
+            self.place = place.turn(b, &mut self.parcels);
         }
-        s
+    }
+
+    // A chunk of the input is read.
+    pub fn feed(&mut self, chunk: &[u8])
+        requires { HasSome self.old }
+        ensures { (past : List ℕ) → Has past self.old → Has (past ++ chunk.now) self.new }
+    {
+        for b in chunk {
+            self.turn(*b);
+        }
     }
 
     // The input ends, and with it a line at hand.
-    #[tactic(auto, unfolding(crate::specs::Steps::ended))]
-    fn ended(self, parcels: &mut [u16; 3072]) -> Reader
-        requires { Fine self }
-        ensures { mem result parcels.new ≡ ended (mem self parcels.old) }
+    #[tactic(auto, unfolding(crate::specs::Steps::ended, crate::specs::Steps::turn_of))]
+    fn end(&mut self)
+        requires { FineIn self.old.place }
+        ensures { self.new ≡ ended self.old }
     {
-        if 0 < self.at {
-            return self.turn(10, parcels);
+        if let Ok(place) = self.place {
+            if place.is_begun() {
+                self.turn(b'\n');
+            }
         }
-        self
     }
 
-    // What it comes to.
-    #[tactic(auto, unfolding(crate::specs::Steps::reading_of))]
-    fn reading(self) -> Reading
-        requires { Fine self }
-        ensures { (result ≡ reading_of self) × Within result }
+    // The parcels of the lines before.
+    fn reading(&self) -> Result<&[u16], Unread>
+        requires { FineIn self.now.place }
+        ensures { Reads self.now result }
     {
-        if self.unread {
-            return Reading::Unread(self.passed + self.parcels + 1);
-        }
-        Reading::Read(self.parcels)
+        let place = self.place?;
+        Ok(&self.parcels[..place.parcels])
     }
 
-    // What the whole input says, with its parcels at the front of the buffer.
-    pub fn finish(self, parcels: &mut [u16; 3072]) -> Reading
-        requires { HasSome self parcels.old }
-        ensures by_index { (input : List ℕ) → Has input self parcels.old → Tells (said input) result parcels.new }
+    // The parcels that the whole input says.
+    pub fn finish(&mut self) -> Result<&[u16], Unread>
+        requires { HasSome self.old }
+        ensures by_index { (input : List ℕ) → Has input self.old → Tells (said input) result }
         ensures within { Within result }
     {
-        let s = self.ended(parcels);
-        s.reading()
+        self.end();
+        self.reading()
     }
 }

@@ -1,4 +1,3 @@
 pub mod Short
-pub mod Others
 pub mod Single
 pub mod Numbers

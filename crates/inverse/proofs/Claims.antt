@@ -13,6 +13,7 @@ use Rattle.known.specs.Twins.{Twin}
 use Rattle.back.proofs.Larger.{larger_row, larger_twin}
 use Rattle.known.specs.Window.{known_at, reading_at}
 use Rattle.encode.specs.declared.Form.TheVariants as form
+use Rattle.std.specs.Prelude.{Ok}
 use Rattle.forth.proofs.LeafAlone.{leaf-cut, third-unknown}
 use Rattle.inverse.proofs.Small.{no-parcels, parcels-join, cut-parcels, form-parcels}
 use Rattle.inverse.proofs.Fronts.{leaf_parcels, front-is}
@@ -49,7 +50,7 @@ encoded_reads ps row e = (
 -- "Six parcels of `LeafReturn` are one row", whatever follows
 pub six_are_one : (rest : List ℕ) → Parcels rest → Front (0x4dfe ∷ 0x0e3f ∷ 0x083f ∷ 0x343f ∷ 0x1901 ∷ 0x0001 ∷ rest) (front.known 6 (31 ∷ replicate 16 0))
 unfolding known_at
-six_are_one rest p = front-is (leaf_parcels ++ rest) (parcels-join leaf_parcels rest (form-parcels form.Leaf) p)
+six_are_one rest p = front-is (leaf_parcels ++ rest) (parcels-join leaf_parcels rest (form-parcels (Ok form.Leaf)) p)
 
 -- "its first two alone are a pre-modify load of I12"
 pub two-alone : Front (0x4dfe ∷ 0x0e3f ∷ []) (front.known 2 (21 ∷ 28 ∷ 6 ∷ 7 ∷ replicate 13 0))

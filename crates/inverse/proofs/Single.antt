@@ -13,7 +13,7 @@ use lib.IntN.{pos}
 use Rattle.bounds.specs.Tables.{at}
 use Rattle.encode.specs.Encoding.{loop_form}
 use Rattle.rows.specs.Fields.{count_of, mode_of}
-use Rattle.known.specs.declared.Known.{Known}
+use Rattle.std.specs.Prelude.{Some}
 use Rattle.known.specs.Front.{EncodesTo, StartsLoop, Reading, Front, instruction, loop_start, neither, Parcels}
 use Rattle.known.specs.Front as front
 use Rattle.known.specs.Twins.{Twin}
@@ -21,7 +21,7 @@ use Rattle.known.specs.Twins as twins
 use Rattle.known.specs.Table.{known}
 use Rattle.known.specs.Window.{starts_leaf, known_at}
 use Rattle.fields.proofs.Matching.{is_false}
-use Rattle.known.proofs.Equal.{equal-same}
+use Rattle.known.proofs.Leaf.{leaf-taken}
 use Rattle.known.proofs.Starts.{loop-moved}
 use Rattle.back.proofs.Larger.{larger_row, larger_encodes}
 use Rattle.back.proofs.Returning.{row-known, only-twins}
@@ -60,14 +60,14 @@ module _ (ps row : List ℕ) (s : StartsLoop ps row) where
   alone : StartsLoop (take 3 ps) row
   alone = loop-moved ps (take 3 ps) row (omega (arith, three)) (sym (take-take 3 3 ps (lit≤ tt))) s
 
-  loop-alone : known_at (take 3 ps) ≡ known 3 row
+  loop-alone : known_at (take 3 ps) ≡ Some (known 3 row)
   loop-alone = loop-known (take 3 ps) row own alone
 
   not_leaf : starts_leaf (take 3 ps) ≡ false
   not_leaf =
       is_false (starts_leaf (take 3 ps))
       (λ l.
-      let q = ap length (equal-same (take 6 (take 3 ps)) leaf_parcels l) in
+      let q = ap length (leaf-taken (take 3 ps) l) in
       let w = length-take 6 (take 3 ps) in
       omega (arith, q, w, three))
 
@@ -78,7 +78,7 @@ module _ (ps row : List ℕ) (s : StartsLoop ps row) where
       long : length (take n ps) ≡ n
       long = length-take-le n ps h
 
-      short : n ≤ 3 → ((rest : List ℕ) → Parcels rest → starts_leaf (take n ps ++ rest) ≡ false → known_at (take n ps ++ rest) ≡ known (length (take n ps)) (larger_row other)) → ⊥
+      short : n ≤ 3 → ((rest : List ℕ) → Parcels rest → starts_leaf (take n ps ++ rest) ≡ false → known_at (take n ps ++ rest) ≡ Some (known (length (take n ps)) (larger_row other))) → ⊥
       short few f =
           let j : take n ps ++ drop n (take 3 ps) ≡ take 3 ps = ap (λ (l : List ℕ). l ++ drop n (take 3 ps)) (sym (take-take n 3 ps few)) ∙ take-append-drop n (take 3 ps) in
           let k = f (drop n (take 3 ps)) (parcels-drop n (take 3 ps) own) (ap starts_leaf j ∙ not_leaf) in
@@ -87,13 +87,13 @@ module _ (ps row : List ℕ) (s : StartsLoop ps row) where
           not_fifty (larger_row other) 0 x.instruction x.reads (ap (λ (l : List ℕ). at l 0) r ∙ ap (λ (l : List ℕ). at l 0) s.numbers)
 
       go :
-          ((length (take n ps) ≤ 3) × ((rest : List ℕ) → Parcels rest → starts_leaf (take n ps ++ rest) ≡ false → known_at (take n ps ++ rest) ≡ known (length (take n ps)) (larger_row other)))
+          ((length (take n ps) ≤ 3) × ((rest : List ℕ) → Parcels rest → starts_leaf (take n ps ++ rest) ≡ false → known_at (take n ps ++ rest) ≡ Some (known (length (take n ps)) (larger_row other))))
           ⊎ ((take n ps ≡ leaf_parcels) × (other ≡ leaf_row)) → ⊥
       go (inl x) = short (let y = x.0 in omega (arith, y, long)) x.1
       go (inr y) =
           let six : n ≡ 6 = sym long ∙ ap length y.0 in
           let q : take 3 ps ≡ 0x4dfe ∷ 0x0e3f ∷ 0x083f ∷ [] = sym (take-take 3 n ps (omega (arith, six))) ∙ ap (take 3) y.0 in
-          let k : ◌≡◌ {A = ℕ} 2 3 = sym three-two ∙ ap (λ (l : List ℕ). (known_at l).parcels) (sym q) ∙ ap (λ (k : Known). k.parcels) loop-alone in
+          let k = (same_known (sym three-two ∙ ap known_at (sym q) ∙ loop-alone)).0 in
           omega (arith, k)
 
 -- THE THEOREM: one reading

@@ -8,7 +8,9 @@ use lib.Pow.{pow_pos}
 use Rattle.fields.specs.Pack.{pack}
 use Rattle.fields.specs.Parcels.{cut}
 use Rattle.words.specs.Forms.{leaf_return}
+use Rattle.std.specs.Prelude.{Ok, Err, Result}
 use Rattle.encode.specs.declared.Form.{Form}
+use Rattle.refusals.specs.declared.Refusal.{Refusal}
 use Rattle.encode.specs.declared.Form.TheVariants as form
 use Rattle.encode.specs.Encoding.{form_parcels, settled}
 use Rattle.known.specs.Front.{Parcels}
@@ -31,19 +33,19 @@ zero_parcels zero i = omega arith
 zero_parcels (suc n) zero = omega arith
 zero_parcels (suc n) (suc i) = zero_parcels n i
 
-pub form-parcels : (f : Form) → Parcels (form_parcels f)
-form-parcels (form.Short w) = cut-parcels 1 w
-form-parcels (form.Pair w) = cut-parcels 2 w
-form-parcels (form.Word w) = cut-parcels 3 w
-form-parcels form.Leaf = cut-parcels 6 (pack leaf_return)
-form-parcels (form.Refused r) = no-parcels
+pub form-parcels : (f : Result Form Refusal) → Parcels (form_parcels f)
+form-parcels (Ok (form.Short w)) = cut-parcels 1 w
+form-parcels (Ok (form.Pair w)) = cut-parcels 2 w
+form-parcels (Ok (form.Word w)) = cut-parcels 3 w
+form-parcels (Ok form.Leaf) = cut-parcels 6 (pack leaf_return)
+form-parcels (Err r) = no-parcels
 
-pub settled-parcels : (f : Form) → Parcels (settled f)
-settled-parcels (form.Short w) = zero_parcels 3
-settled-parcels (form.Pair w) = zero_parcels 3
-settled-parcels (form.Word w) = cut-parcels 3 w
-settled-parcels form.Leaf = zero_parcels 3
-settled-parcels (form.Refused r) = zero_parcels 3
+pub settled-parcels : (f : Result Form Refusal) → Parcels (settled f)
+settled-parcels (Ok (form.Short w)) = zero_parcels 3
+settled-parcels (Ok (form.Pair w)) = zero_parcels 3
+settled-parcels (Ok (form.Word w)) = cut-parcels 3 w
+settled-parcels (Ok form.Leaf) = zero_parcels 3
+settled-parcels (Err r) = zero_parcels 3
 
 pub parcels-drop : (n : ℕ) (ps : List ℕ) → Parcels ps → Parcels (drop n ps)
 parcels-drop zero ps p i = p i

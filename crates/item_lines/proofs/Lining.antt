@@ -1,68 +1,34 @@
 -- The numbers and the name of a line, and lines put one after the other.
-use mathlib.Core.Path.{◌≡◌, refl, sym, ap, subst, ◌∙◌}
-use mathlib.Core.Bool.{Bool, true, false, cond}
+use mathlib.Core.Path.{◌≡◌, refl, sym, ap, ◌∙◌}
+use mathlib.Core.Bool.{cond}
 use mathlib.Core.List.{List, [], ◌∷◌, ◌++◌, append-nil, append_assoc}
-use Prim.Native.Nat.{ℕ, zero, suc, min, ◌+◌, ◌-◌, ◌*◌, ◌≤◌, ◌<◌}
+use Prim.Native.Nat.{ℕ, zero, suc, ◌+◌, ◌*◌, ◌≤◌, ◌<◌}
 use native.Mathlib.Omega.{arith}
-use native.Mathlib.Numerals.{add-one}
 use native.Mathlib.Nat.{zero-mul, suc-mul}
 use lib.ListN.{length, get_or, take, drop, length-append, length-take, length-drop}
-use lib.Seq.{drop-drop, length-take-le}
-use lib.Dec.{eqb, leb}
-use borrow.Author.Tests.{leb-true, leb-false, eq-eqb, ne_eqb}
+use lib.Seq.{drop-drop, take-take, take_at, drop_at, length-take-le}
+use lib.Dec.{eqb}
+use borrow.Author.Tests.{eq-eqb, ne_eqb}
+use denote.Ref.{Bor}
+use Rattle.std.specs.Prelude.{Some}
+use Rattle.std.specs.declared.slice.ChunksExact.{ChunksExact}
+use Rattle.std.specs.Slice.Iter.{chunks_exact_rest, chunks_exact_size, chunks_exact_steps}
+use Rattle.std.proofs.lemmas.List.{drop-take}
+use Rattle.text.specs.declared.Text.{Text}
 use Rattle.text.specs.Text.{decimal, each, Puts}
 use Rattle.text.proofs.Decimals.{decimal-short}
-use Rattle.text.proofs.Lengths.{take-least}
 use Rattle.text.proofs.Putting.{puts_none, puts_then}
 use Rattle.reader.proofs.Conds.{cond_keeps}
 use Rattle.row_lines.specs.RowText.{written, field, Prints}
 use Rattle.row_lines.proofs.Writing.{fields-short, written-short, prints}
 use Rattle.item_lines.specs.ItemText.{parted, plain_line, named_line, item_line, lines_of, item_lines}
 
--- ---- a line's numbers: the first, and those after it
-pub parted-of : (row : List ℕ) (n : ℕ) → 0 < n → 0 < length row → decimal (get_or row 0 0) ++ each field (take (n - 1) (drop 1 row)) ≡ parted (take n row)
-parted-of row zero h k = absurd (omega arith)
-parted-of [] (suc n) h k = absurd (omega arith)
-parted-of (m ∷ row) (suc n) h k = let e : suc n - 1 ≡ n = omega arith in rw e
-
+-- ---- a line's numbers
 pub parted-short : (ns : List ℕ) → length (parted ns) ≤ 21 * length ns
 parted-short [] = omega arith
 parted-short (n ∷ ns) = omega (arith, length-append (decimal n) (each field ns), decimal-short n, fields-short ns)
 
--- a row's kind is among the numbers that are written
-pub some_written : (row : List ℕ) (n : ℕ) → take n row ≡ written row → 0 < length row → 0 < n
-some_written [] n e h = absurd (omega arith)
-some_written (k ∷ row) zero e h = let z : length (take 0 (k ∷ row)) ≡ length (written (k ∷ row)) = ap length e in absurd (omega (arith, z))
-some_written (k ∷ row) (suc n) e h = omega arith
-
--- ---- a name: its range, as far as the names hold it
-drop-least : (n : ℕ) (l : List ℕ) → drop (min n (length l)) l ≡ drop n l
-drop-least n l = by (leb n (length l)) refl
-  where
-    none : (k : ℕ) → length l ≤ k → drop k l ≡ []
-    none k h = empty (drop k l) (omega (arith, length-drop k l))
-      where
-        empty : (m : List ℕ) → length m ≤ 0 → m ≡ []
-        empty [] h = refl
-        empty (b ∷ m) h = absurd (omega arith)
-
-    by : (t : Bool) → leb n (length l) ≡ t → drop (min n (length l)) l ≡ drop n l
-    by true e = let k : min n (length l) ≡ n = omega (arith, leb-true n (length l) e) in rw k
-    by false e =
-        let h = leb-false n (length l) e in
-        none (min n (length l)) (omega arith) ∙ sym (none n (omega arith))
-
-module _ (names : List ℕ) (start size : ℕ) where
-  name_of : (from k : ℕ) → from ≡ min start (length names) → k ≡ min size (length names - from) → take (from + k - from) (drop from names) ≡ take size (drop start names)
-  name_of from k e f =
-      let long : length (drop from names) ≡ length names - from = length-drop from names in
-      let d : from + k - from ≡ min size (length (drop from names)) = omega (arith, f, long) in
-      ap (λ (j : ℕ). take j (drop from names)) d ∙ take-least size (drop from names) ∙ ap (take size) (ap (λ (j : ℕ). drop j names) e ∙ drop-least start names)
-
-  pub puts-name : {from k : ℕ} → from ≡ min start (length names) → k ≡ min size (length names - from)
-      → {old : List ℕ} {at : ℕ} {new : List ℕ} {r : ℕ} → Puts old at (take (from + k - from) (drop from names)) new r → Puts old at (take size (drop start names)) new r
-  puts-name {from} {k} e f {old} {at} {new} {r} p = subst (λ (l : List ℕ). Puts old at l new r) (name_of from k e f) p
-
+-- ---- a name, as far as the names hold it
 pub name-short : (names : List ℕ) (start size : ℕ) → length (take size (drop start names)) ≤ length names
 name-short names start size = omega (arith, length-take size (drop start names), length-drop start names)
 
@@ -121,29 +87,54 @@ module _ (w : ℕ) (line : List ℕ → List ℕ) where
   lines-short m h (suc n) l =
       omega (arith, length-append (line (take w l)) (lines_of w line n (drop w l)), h (take w l) (omega (arith, length-take w l)), lines-short m h n (drop w l), suc-mul n m)
 
-  -- the part of the list between its ends
-  pub part-width : (i : ℕ) → i * w + w - i * w ≡ w
-  part-width i = omega arith
+  -- more of a list than the parts whose lines are put changes nothing
+  pub lines_front : (n k : ℕ) (l : List ℕ) → k ≡ n * w → lines_of w line n (take k l) ≡ lines_of w line n l
+  lines_front zero k l e = refl
+  lines_front (suc n) k l e =
+      let f : k ≡ w + n * w = omega (arith, e, suc-mul n w) in
+      let first : take w (take k l) ≡ take w l = take-take w k l (omega (arith, f)) in
+      let others : drop w (take k l) ≡ take (n * w) (drop w l) = rw f (drop-take w (n * w) l) in
+      rw (first, others, lines_front n (n * w) (drop w l) refl)
 
-  pub part-long : (l : List ℕ) (i : ℕ) → i * w + w ≤ length l → length (take (i * w + w - i * w) (drop (i * w) l)) ≡ w
-  part-long l i h = rw (part-width i) (length-take-le w (drop (i * w) l) (omega (arith, length-drop (i * w) l)))
+  -- the lines of the parts that have come
+  pub record Lining (t : Text) (l : List ℕ) (parts : ChunksExact ℕ) (u : Text) : Type 0 where
+    pub done : ℕ
+    pub within : done * w ≤ length l
+    pub here : Puts t (lines_of w line done l) u
+    pub others : chunks_exact_rest parts ≡ drop (done * w) l
+    pub size_is : chunks_exact_size parts ≡ w
 
-  pub record Lining (old l : List ℕ) (n i next : ℕ) (new : List ℕ) : Type 0 where
-    pub within : i ≤ n
-    pub here : Puts old 0 (lines_of w line i l) new next
+  pub lining_start : (t : Text) {l : List ℕ} {parts : ChunksExact ℕ} → chunks_exact_rest parts ≡ l → chunks_exact_size parts ≡ w → Lining t l parts t
+  lining_start t {l} e f = record { done = 0; within = omega (arith, zero-mul w); here = puts_none t; others = e ∙ ap (λ (k : ℕ). drop k l) (sym (zero-mul w)); size_is = f }
 
-  module _ (old l : List ℕ) (n : ℕ) where
-    pub lining_start : Lining old l n 0 0 old
-    lining_start = record { within = omega arith; here = puts_none old 0 }
+  module _ {t u : Text} {l : List ℕ} {parts : ChunksExact ℕ} (g : Lining t l parts u) (part : Bor (List ℕ)) (parts' : ChunksExact ℕ) (s : chunks_exact_steps parts (Some part) parts') where
+    part-long : length part.now ≡ w
+    part-long = s.1.1 ∙ g.size_is
 
-    pub lining_next : (i : ℕ) {next : ℕ} {new : List ℕ} → Lining old l n i next new → i < n
-        → {next' : ℕ} {new' : List ℕ} → Puts new next (line (take w (drop (i * w) l))) new' next' → Lining old l n (i + 1) next' new'
-    lining_next i g h p = record { within = omega arith; here = rw (add-one, lines_one_more i l) (puts_then g.here p) }
+    whole : drop (g.done * w) l ≡ part.now ++ chunks_exact_rest parts'
+    whole = sym g.others ∙ s.1.0
 
-    pub lining_end : (i : ℕ) {next : ℕ} {new : List ℕ} → Lining old l n i next new → n ≤ i → length (lines_of w line n l) ≤ length old → Prints (lines_of w line n l) new next
-    lining_end i g h room =
-        let e : i ≡ n = omega (arith, g.within) in
-        prints (rw e at g.here) room
+    pub lining_room : suc g.done * w ≤ length l
+    lining_room = omega (arith, g.within, suc-mul g.done w, ap length whole, length-drop (g.done * w) l, length-append part.now (chunks_exact_rest parts'), part-long)
+
+    pub lining_next : {v : Text} → Puts u (line part.now) v → Lining t l parts' v
+    lining_next p =
+        record {
+          done = suc g.done;
+          within = lining_room;
+          here = rw (lines_one_more g.done l, whole, take_at part.now (chunks_exact_rest parts') w part-long) (puts_then g.here p);
+          others = sym (drop_at part.now (chunks_exact_rest parts') w part-long) ∙ ap (drop w) (sym whole) ∙ drop-drop w (g.done * w) l ∙ ap (λ (k : ℕ). drop k l) (omega (arith, suc-mul g.done w));
+          size_is = s.0 ∙ g.size_is;
+        }
 
 pub items-short : (names : List ℕ) (n : ℕ) (rows : List ℕ) → length names ≤ 2048 → length (item_lines names n rows) ≤ n * 2406
 items-short names n rows k = lines-short 17 (item_line names) 2406 (item-short names k) n rows
+
+pub items-shown : (names : List ℕ) (n : ℕ) (rows : List ℕ) {t u : Text} {parts : ChunksExact ℕ} → Lining 17 (item_line names) t (take (17 * n) rows) parts u
+    → length (chunks_exact_rest parts) < chunks_exact_size parts → t.at ≡ 0 → 17 * n ≤ length rows → length names ≤ 2048 → 2406 * n ≤ length t.out.now → Prints (item_lines names n rows) u.out.now u.at
+items-shown names n rows g short z h k room =
+    let l : length (take (17 * n) rows) ≡ 17 * n = length-take-le (17 * n) rows h in
+    let e : g.done ≡ n = omega (arith, g.within, g.size_is, ap length g.others, length-drop (g.done * 17) (take (17 * n) rows)) in
+    prints (rw (e, lines_front 17 (item_line names) n (17 * n) rows (omega arith)) at g.here) z (omega (arith, items-short names n rows k))
+
+pub ruleset shorts = (decimal-short, parted-short, name-short, length-take, length-drop)

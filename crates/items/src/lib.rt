@@ -114,19 +114,13 @@ pub struct FloatMulAlu {
     pub alu_y: Register,
 }
 
-// A 23-bit compute field, and the numbers of its destinations: 16 where there is none.
+// A 23-bit compute field, and the numbers of its destinations: 16 where there is none. Two plain numbers, as document 01 has them: no register
+// has 16, so one comparison serves.
 #[derive(Clone, Copy)]
 pub struct Compute {
     pub field: u32,
     pub first: u8,
     pub second: u8,
-}
-
-// The compute beside a move, if there is one.
-#[derive(Clone, Copy)]
-pub enum OptionalCompute {
-    Nothing,
-    Held(Compute),
 }
 
 // One post-modify half of a dual move.
@@ -234,12 +228,12 @@ pub enum VisaInstruction {
     LeafReturn,
     Compute(Compute),
     DualMove {
-        compute: OptionalCompute,
+        compute: Option<Compute>,
         dm: DataAccess,
         pm: DataAccess,
     },
     MemoryMove {
-        compute: OptionalCompute,
+        compute: Option<Compute>,
         access: MemoryAccess,
     },
     StoreImmediate {
@@ -257,10 +251,10 @@ pub enum VisaInstruction {
     WideNop,
 }
 
-// What a row stands for. A name is a range of the lent names.
+// What a row stands for, an instruction as an I. A name is a range of the lent names.
 #[derive(Clone, Copy)]
-pub enum Item {
-    Instruction(VisaInstruction),
+pub enum Item<I> {
+    Instruction(I),
     Label {
         start: u32,
         length: u32,
@@ -277,7 +271,8 @@ pub enum Item {
     LoopEnd,
 }
 
-// The kind of an instruction as document 01 numbers it, and whether it is a delayed `JumpRelative`.
+// The kind of an instruction as document 01 numbers it, and whether it is a delayed `JumpRelative`. The number is a row's first; as an enum
+// the kinds would be the cases of `VisaInstruction` again.
 #[derive(Clone, Copy)]
 pub struct Kind {
     pub number: u8,

@@ -1,8 +1,8 @@
 pub mod Apart
 pub mod Opcodes
 pub mod Places
-pub mod Leaf
 pub mod Narrowed
-pub mod Equal
+pub mod Leaf
 pub mod UpTo
+pub mod Written
 pub mod Starts

@@ -12,7 +12,8 @@ use Rattle.bounds.specs.Tables.{lookup}
 use Rattle.bounds.specs.Bounds.{fields}
 use Rattle.rows.specs.Fields.{instruction_of, scalars}
 use Rattle.rows.specs.Fields as rows
-use Rattle.known.specs.Table.{Held, held, nothing_held, first_line, multi_line, compute_lines, compute_at}
+use Rattle.std.specs.Prelude.{Option, Some, None}
+use Rattle.known.specs.Table.{Held, held_if, first_line, multi_line, compute_lines, compute_at}
 
 -- the parts of the number in bits 22:12
 top : (n : ℕ) → n / 0x40_0000 % 2 ≡ n / 0x1000 % 0x800 / 1024
@@ -50,19 +51,19 @@ single-test :
 single-test n unit opcode u o = rw (top n, middle n, low n) (one-test (n / 0x1000 % 0x800) unit opcode u o)
 
 -- a single compute of a kind, whose third field is below a limit; and the comparison, which writes nothing
-abbrev single : ℕ → ℕ → ℕ → Held
-single n kind limit = held (1 ∷ kind ∷ field 11 8 n ∷ field 7 4 n ∷ field 3 0 n ∷ 0 ∷ 0 ∷ 0 ∷ []) (field 11 8 n) 16 (ltb (field 3 0 n) limit)
+abbrev single : ℕ → ℕ → ℕ → Option Held
+single n kind limit = held_if (ltb (field 3 0 n) limit) (1 ∷ kind ∷ field 11 8 n ∷ field 7 4 n ∷ field 3 0 n ∷ 0 ∷ 0 ∷ 0 ∷ []) (Some (field 11 8 n)) None
 
-abbrev compare : ℕ → Held
-compare n = held (1 ∷ 27 ∷ field 7 4 n ∷ field 3 0 n ∷ field 11 8 n ∷ 0 ∷ 0 ∷ 0 ∷ []) 16 16 (ltb (field 11 8 n) 1)
+abbrev compare : ℕ → Option Held
+compare n = held_if (ltb (field 11 8 n) 1) (1 ∷ 27 ∷ field 7 4 n ∷ field 3 0 n ∷ field 11 8 n ∷ 0 ∷ 0 ∷ 0 ∷ []) None None
 
-abbrev pub singles : ℕ → List (ℕ × Held)
+abbrev pub singles : ℕ → List (ℕ × Option Held)
 singles n =
     (0x081, single n 0 16) ∷ (0x082, single n 1 16) ∷ (0x130, single n 2 16) ∷ (0x0e1, single n 3 16) ∷ (0x0e2, single n 4 16) ∷ (0x0a2, single n 5 1)
     ∷ (0x0b0, single n 6 1) ∷ (0x002, single n 7 16) ∷ (0x0a1, single n 8 1) ∷ (0x02a, single n 25 1) ∷ (0x021, single n 26 1) ∷ (0x00b, compare n) ∷ []
 
-abbrev pub multis : ℕ → Held
-multis n = first_line (nothing_held false) (multi_line 0 0x18 ∷ multi_line 1 0x19 ∷ []) n
+abbrev pub multis : ℕ → Option Held
+multis n = first_line None (multi_line 0 0x18 ∷ multi_line 1 0x19 ∷ []) n
 
 pub by-opcode : (n : ℕ) → compute_at n ≡ lookup (n / 0x1000 % 0x800) (singles n) (multis n)
 unfolding compute_at compute_lines layout_of instruction_of scalars rows.others fields

@@ -1,11 +1,9 @@
 -- Document 02, wish 4: what stands at the front of parcels: "It recognises every form the build can emit and nothing else".
-use Rattle.std.specs.Prelude.{ℕ, ◌^◌, ◌<◌, ◌≤◌, ◌≡◌, List, ◌∷◌, pos, length, take, replicate}
-use Rattle.refusals.specs.declared.Verdict.TheVariants.{Good}
+use Rattle.std.specs.Prelude.{ℕ, ◌^◌, ◌<◌, ◌≤◌, ◌≡◌, List, ◌∷◌, pos, length, take, replicate, Ok}
 use Rattle.items.specs.declared.VisaInstruction.{VisaInstruction}
 use Rattle.items.specs.declared.Item.TheVariants as item
 use Rattle.encode.specs.Encoding.{parcels_of, verdict_of, loop_form, form_parcels, form_verdict}
 use Rattle.bounds.specs.Tables.{at}
-use Rattle.rows.specs.declared.Read.TheVariants as read
 use Rattle.rows.specs.Fields.{count_of, mode_of}
 use Rattle.rows.specs.Rows.{row_width, read_of}
 
@@ -13,8 +11,8 @@ use Rattle.rows.specs.Rows.{row_width, read_of}
 pub record EncodesTo (parcels row : List ℕ) : Type 0 where
   pub whole : length row ≡ row_width
   pub instruction : VisaInstruction
-  pub reads : read_of row 0 ≡ read.Item (item.Instruction instruction)
-  pub good : verdict_of instruction ≡ Good
+  pub reads : read_of row 0 ≡ Ok (item.Instruction instruction)
+  pub good : verdict_of instruction ≡ Ok tt
   pub same : parcels_of instruction ≡ parcels
 
 -- the parcels start with the n of an instruction; "Six parcels of `LeafReturn` are one row": where the parcels of several start there, the most
@@ -32,10 +30,10 @@ pub record StartsLoop (parcels row : List ℕ) : Type 0 where
   pub mode : ℕ
   pub offset : ℕ
   pub numbers : row ≡ 50 ∷ choice ∷ count ∷ mode ∷ replicate 13 0
-  pub reads : read_of row 0 ≡ read.Item (item.LoopBegin (count_of choice count) (mode_of mode))
+  pub reads : read_of row 0 ≡ Ok (item.LoopBegin (count_of choice count) (mode_of mode))
   pub low : 3 ≤ offset
   pub high : offset ≤ 0x3f_ffff
-  pub good : form_verdict (loop_form (count_of choice count) (mode_of mode) (pos offset)) ≡ Good
+  pub good : form_verdict (loop_form (count_of choice count) (mode_of mode) (pos offset)) ≡ Ok tt
   pub within : 3 ≤ length parcels
   pub same : form_parcels (loop_form (count_of choice count) (mode_of mode) (pos offset)) ≡ take 3 parcels
 

@@ -7,42 +7,61 @@ pub mod forms;
 pub mod lines;
 pub mod moves;
 
-ghost use Rattle.std.specs.Prelude.{◌≡◌, ◌<◌, ◌≤◌, ◌^◌, length, drop};
+ghost use Rattle.std.specs.Prelude.{◌≡◌, ◌<◌, ◌≤◌, ◌^◌, ◌+◌, eqb, length, drop};
+ghost use Rattle.fields.specs.Pack.{field};
 ghost use Rattle.bounds.specs.Tables as tables;
 ghost use Rattle.known.specs.Table.{known_in};
 ghost use Rattle.known.specs.Window as front;
 
-use lines::{line_if, nothing};
+use encode::LEAF_RETURN_PARCELS;
 
-// So many parcels, and the row that they stand for; 0 parcels where they start no known form.
+// So many parcels, and the row that they stand for.
 #[derive(Clone, Copy)]
 pub struct Known {
-    pub parcels: u64,
+    pub parcels: usize,
     pub row: [u32; 17],
 }
 
-// A compute in a row: its eight places, the data registers that it writes (16: none), and whether a row may hold it.
+// A compute in a row: its eight places, and the data registers that it writes.
 #[derive(Clone, Copy)]
 pub struct Held {
     pub places: [u32; 8],
-    pub first: u32,
-    pub second: u32,
-    pub fine: bool,
+    pub first: Option<u32>,
+    pub second: Option<u32>,
+}
+
+// What stands in the bits hi:lo of a word.
+#[inline(always)]
+fn bits(w: u64, hi: u32, lo: u32) -> u32
+    requires within { (lo ≤ hi) × (hi < 64) }
+    requires few { hi < lo + 32 }
+    ensures { result ≡ field hi lo w }
+{
+    ((w >> lo) % (1 << (hi + 1 - lo))) as u32
+}
+
+// Whether a number stands there.
+#[inline(always)]
+fn has(w: u64, hi: u32, lo: u32, number: u64) -> bool
+    requires within { (lo ≤ hi) × (hi < 64) }
+    requires few { hi < lo + 63 }
+    ensures { result ≡ eqb (field hi lo w) number }
+{
+    (w >> lo) % (1 << (hi + 1 - lo)) == number
 }
 
 // What a word of 48 bits stands for at its front, by its highest bits.
-pub fn known_in(w: u64) -> Known
+pub fn known_in(w: u64) -> Option<Known>
     ensures { result ≡ known_in w }
 {
-    match w / 0x2000_0000_0000 % 8 {
+    match bits(w, 47, 45) {
         0 => classes::by_opcode(w),
         1 => moves::dual(w),
         2 => moves::memory(w),
         3 => classes::moved(w),
         4 => classes::stored(w),
         5 => classes::offset(w),
-        6 => nothing(),
-        _ => nothing(),
+        _ => None,
     }
 }
 
@@ -50,10 +69,7 @@ pub fn known_in(w: u64) -> Known
 fn parcel(parcels: &[u16], k: usize) -> u64
     ensures { (result ≡ tables.at parcels.now k) × (result < 2 ^ 16) }
 {
-    if k < parcels.len() {
-        return parcels[k] as u64;
-    }
-    0
+    parcels.get(k).map_or(0, |p| u64::from(*p))
 }
 
 // The first three parcels as a word.
@@ -67,34 +83,23 @@ fn window(parcels: &[u16]) -> u64
 fn starts_leaf(parcels: &[u16]) -> bool
     ensures { result ≡ front.starts_leaf parcels.now }
 {
-    if parcels.len() < 6 {
-        return false;
-    }
-    if parcels[0] != 0x4dfe {
-        return false;
-    }
-    (parcels[1] == 0x0e3f)
-        & ((parcels[2] == 0x083f)
-            & ((parcels[3] == 0x343f) & ((parcels[4] == 0x1901) & ((parcels[5] == 0x0001) & true))))
+    parcels.starts_with(&LEAF_RETURN_PARCELS)
 }
 
 // What stands at the front; a form that is cut short is unknown.
 #[tactic(auto, unfolding(crate::specs::Window::known_at))]
-fn known_front(parcels: &[u16]) -> Known
+fn known_front(parcels: &[u16]) -> Option<Known>
     ensures { result ≡ front.known_at parcels.now }
 {
     if starts_leaf(parcels) {
-        return line_if(true, 6, 31, 0, 0, 0);
+        return Some(Known::line(6, 31, 0, 0, 0));
     }
-    let known = known_in(window(parcels));
-    if known.parcels <= parcels.len() as u64 {
-        return known;
-    }
-    nothing()
+    let known = known_in(window(parcels))?;
+    (known.parcels <= parcels.len()).then_some(known)
 }
 
 // What the parcels from a place on start with.
-pub fn known_at(parcels: &[u16], at: usize) -> Known
+pub fn known_at(parcels: &[u16], at: usize) -> Option<Known>
     requires { at ≤ length parcels.now }
     ensures { result ≡ front.known_at (drop at parcels.now) }
 {

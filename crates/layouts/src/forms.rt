@@ -1,5 +1,5 @@
 // Each form, from the word functions.
-use crate::print::{named, one, three, two};
+use crate::print::listed;
 use computes::compute_word;
 use items::Condition;
 use std::io;
@@ -15,167 +15,200 @@ fn multi_word(opcode: u8, product: u8, alu: u8, x: u8, y: u8, alu_x: u8, alu_y: 
 }
 
 fn single(rt: &HostRuntime) -> io::Result<()> {
-    named(rt, "single")?;
-    three(rt, compute_word(0, 0, 0, 0, 0))?;
-    three(rt, compute_word(3, 0, 0, 0, 0))?;
-    three(rt, compute_word(0, 0xff, 0, 0, 0))?;
-    three(rt, compute_word(0, 0, 15, 0, 0))?;
-    three(rt, compute_word(0, 0, 0, 15, 0))?;
-    three(rt, compute_word(0, 0, 0, 0, 15))
+    let words = [
+        compute_word(0, 0, 0, 0, 0),
+        compute_word(3, 0, 0, 0, 0),
+        compute_word(0, 0xff, 0, 0, 0),
+        compute_word(0, 0, 15, 0, 0),
+        compute_word(0, 0, 0, 15, 0),
+        compute_word(0, 0, 0, 0, 15),
+    ];
+    listed(rt, "single", 12, &words)
 }
 
 fn multi(rt: &HostRuntime) -> io::Result<()> {
-    named(rt, "multi")?;
-    three(rt, multi_word(0, 0, 0, 0, 0, 0, 0))?;
-    three(rt, multi_word(0x3f, 0, 0, 0, 0, 0, 0))?;
-    three(rt, multi_word(0, 15, 0, 0, 0, 0, 0))?;
-    three(rt, multi_word(0, 0, 15, 0, 0, 0, 0))?;
-    three(rt, multi_word(0, 0, 0, 3, 0, 0, 0))?;
-    three(rt, multi_word(0, 0, 0, 0, 3, 0, 0))?;
-    three(rt, multi_word(0, 0, 0, 0, 0, 3, 0))?;
-    three(rt, multi_word(0, 0, 0, 0, 0, 0, 3))
+    let words = [
+        multi_word(0, 0, 0, 0, 0, 0, 0),
+        multi_word(0x3f, 0, 0, 0, 0, 0, 0),
+        multi_word(0, 15, 0, 0, 0, 0, 0),
+        multi_word(0, 0, 15, 0, 0, 0, 0),
+        multi_word(0, 0, 0, 3, 0, 0, 0),
+        multi_word(0, 0, 0, 0, 3, 0, 0),
+        multi_word(0, 0, 0, 0, 0, 3, 0),
+        multi_word(0, 0, 0, 0, 0, 0, 3),
+    ];
+    listed(rt, "multi", 12, &words)
 }
 
 fn long17a(rt: &HostRuntime) -> io::Result<()> {
-    named(rt, "long17a")?;
-    three(rt, long_word(0, 0, 0))?;
-    three(rt, long_word(0xff, 0, 0))?;
-    three(rt, long_word(0, 0x7f, 0))?;
-    three(rt, long_word(0, 0, 0xffff_ffff))
+    let words = [
+        long_word(0, 0, 0),
+        long_word(0xff, 0, 0),
+        long_word(0, 0x7f, 0),
+        long_word(0, 0, 0xffff_ffff),
+    ];
+    listed(rt, "long17a", 12, &words)
 }
 
 fn move5a(rt: &HostRuntime) -> io::Result<()> {
-    named(rt, "move5a")?;
-    three(rt, move_word(0, 0))?;
-    three(rt, move_word(0, 0x7c))?;
-    three(rt, move_word(0, 2))?;
-    three(rt, move_word(0, 1))?;
-    three(rt, move_word(0x7f, 0))
+    let words = [
+        move_word(0, 0),
+        move_word(0, 0x7c),
+        move_word(0, 2),
+        move_word(0, 1),
+        move_word(0x7f, 0),
+    ];
+    listed(rt, "move5a", 12, &words)
 }
 
 fn modify19a(rt: &HostRuntime) -> io::Result<()> {
-    named(rt, "modify19a")?;
-    three(rt, modify_word(0, 0))?;
-    three(rt, modify_word(8, 0))?;
-    three(rt, modify_word(7, 0))?;
-    three(rt, modify_word(0, 0xffff_ffff))
+    let words = [
+        modify_word(0, 0),
+        modify_word(8, 0),
+        modify_word(7, 0),
+        modify_word(0, 0xffff_ffff),
+    ];
+    listed(rt, "modify19a", 12, &words)
 }
 
 fn offset15a(rt: &HostRuntime) -> io::Result<()> {
-    named(rt, "offset15a")?;
-    three(rt, far_word(0, 0, 0, false))?;
-    three(rt, far_word(0, 7, 0, false))?;
-    three(rt, far_word(0, 0, 0, true))?;
-    three(rt, far_word(0x7f, 0, 0, false))?;
-    three(rt, far_word(0, 0, 0xffff_ffff, false))
+    let words = [
+        far_word(0, 0, 0, false),
+        far_word(0, 7, 0, false),
+        far_word(0, 0, 0, true),
+        far_word(0x7f, 0, 0, false),
+        far_word(0, 0, 0xffff_ffff, false),
+    ];
+    listed(rt, "offset15a", 12, &words)
 }
 
 fn jump8a(rt: &HostRuntime) -> io::Result<()> {
-    named(rt, "jump8a")?;
-    three(rt, jump_word(Condition::Eq, false, 0))?;
-    three(rt, jump_word(Condition::Always, false, 0))?;
-    three(rt, jump_word(Condition::Eq, true, 0))?;
-    three(rt, jump_word(Condition::Eq, false, 0xff_ffff))
+    let words = [
+        jump_word(Condition::Eq, false, 0),
+        jump_word(Condition::Always, false, 0),
+        jump_word(Condition::Eq, true, 0),
+        jump_word(Condition::Eq, false, 0xff_ffff),
+    ];
+    listed(rt, "jump8a", 12, &words)
 }
 
 fn call25a(rt: &HostRuntime) -> io::Result<()> {
-    named(rt, "call25a")?;
-    three(rt, call_word(0))?;
-    three(rt, call_word(0xff_ffff))
+    let words = [call_word(0), call_word(0xff_ffff)];
+    listed(rt, "call25a", 12, &words)
 }
 
 fn store16a(rt: &HostRuntime) -> io::Result<()> {
-    named(rt, "store16a")?;
-    three(rt, store_word(0, 0, false, 0))?;
-    three(rt, store_word(7, 0, false, 0))?;
-    three(rt, store_word(0, 7, false, 0))?;
-    three(rt, store_word(0, 0, true, 0))?;
-    three(rt, store_word(0, 0, false, 0xffff_ffff))
+    let words = [
+        store_word(0, 0, false, 0),
+        store_word(7, 0, false, 0),
+        store_word(0, 7, false, 0),
+        store_word(0, 0, true, 0),
+        store_word(0, 0, false, 0xffff_ffff),
+    ];
+    listed(rt, "store16a", 12, &words)
 }
 
 fn mode18a(rt: &HostRuntime) -> io::Result<()> {
-    named(rt, "mode18a")?;
-    three(rt, mode_word(false, 0))?;
-    three(rt, mode_word(true, 0))?;
-    three(rt, mode_word(false, 0xffff_ffff))
+    let words = [
+        mode_word(false, 0),
+        mode_word(true, 0),
+        mode_word(false, 0xffff_ffff),
+    ];
+    listed(rt, "mode18a", 12, &words)
 }
 
 fn dual1a(rt: &HostRuntime) -> io::Result<()> {
-    named(rt, "dual1a")?;
-    three(rt, dual_word(false, 0, 0, false, 0, 0, 0, 0, 0))?;
-    three(rt, dual_word(true, 0, 0, false, 0, 0, 0, 0, 0))?;
-    three(rt, dual_word(false, 7, 0, false, 0, 0, 0, 0, 0))?;
-    three(rt, dual_word(false, 0, 7, false, 0, 0, 0, 0, 0))?;
-    three(rt, dual_word(false, 0, 0, true, 0, 0, 0, 0, 0))?;
-    three(rt, dual_word(false, 0, 0, false, 15, 0, 0, 0, 0))?;
-    three(rt, dual_word(false, 0, 0, false, 0, 7, 0, 0, 0))?;
-    three(rt, dual_word(false, 0, 0, false, 0, 0, 7, 0, 0))?;
-    three(rt, dual_word(false, 0, 0, false, 0, 0, 0, 15, 0))?;
-    three(rt, dual_word(false, 0, 0, false, 0, 0, 0, 0, 0x7f_ffff))
+    let words = [
+        dual_word(false, 0, 0, false, 0, 0, 0, 0, 0),
+        dual_word(true, 0, 0, false, 0, 0, 0, 0, 0),
+        dual_word(false, 7, 0, false, 0, 0, 0, 0, 0),
+        dual_word(false, 0, 7, false, 0, 0, 0, 0, 0),
+        dual_word(false, 0, 0, true, 0, 0, 0, 0, 0),
+        dual_word(false, 0, 0, false, 15, 0, 0, 0, 0),
+        dual_word(false, 0, 0, false, 0, 7, 0, 0, 0),
+        dual_word(false, 0, 0, false, 0, 0, 7, 0, 0),
+        dual_word(false, 0, 0, false, 0, 0, 0, 15, 0),
+        dual_word(false, 0, 0, false, 0, 0, 0, 0, 0x7f_ffff),
+    ];
+    listed(rt, "dual1a", 12, &words)
 }
 
 fn memory3a(rt: &HostRuntime) -> io::Result<()> {
-    named(rt, "memory3a")?;
-    three(rt, memory_word(false, 0, 0, false, false, 0, 0))?;
-    three(rt, memory_word(true, 0, 0, false, false, 0, 0))?;
-    three(rt, memory_word(false, 7, 0, false, false, 0, 0))?;
-    three(rt, memory_word(false, 0, 7, false, false, 0, 0))?;
-    three(rt, memory_word(false, 0, 0, true, false, 0, 0))?;
-    three(rt, memory_word(false, 0, 0, false, true, 0, 0))?;
-    three(rt, memory_word(false, 0, 0, false, false, 0x7f, 0))?;
-    three(rt, memory_word(false, 0, 0, false, false, 0, 0x7f_ffff))
+    let words = [
+        memory_word(false, 0, 0, false, false, 0, 0),
+        memory_word(true, 0, 0, false, false, 0, 0),
+        memory_word(false, 7, 0, false, false, 0, 0),
+        memory_word(false, 0, 7, false, false, 0, 0),
+        memory_word(false, 0, 0, true, false, 0, 0),
+        memory_word(false, 0, 0, false, true, 0, 0),
+        memory_word(false, 0, 0, false, false, 0x7f, 0),
+        memory_word(false, 0, 0, false, false, 0, 0x7f_ffff),
+    ];
+    listed(rt, "memory3a", 12, &words)
 }
 
 fn loop12a(rt: &HostRuntime) -> io::Result<()> {
-    named(rt, "loop12a")?;
-    three(rt, count_loop_word(0, false, 0))?;
-    three(rt, count_loop_word(0xffff, false, 0))?;
-    three(rt, count_loop_word(0, true, 0))?;
-    three(rt, count_loop_word(0, false, 0x7f_ffff))
+    let words = [
+        count_loop_word(0, false, 0),
+        count_loop_word(0xffff, false, 0),
+        count_loop_word(0, true, 0),
+        count_loop_word(0, false, 0x7f_ffff),
+    ];
+    listed(rt, "loop12a", 12, &words)
 }
 
 fn register_loop12a(rt: &HostRuntime) -> io::Result<()> {
-    named(rt, "registerLoop12a")?;
-    three(rt, register_loop_word(0, false, 0))?;
-    three(rt, register_loop_word(0x7f, false, 0))?;
-    three(rt, register_loop_word(0, true, 0))?;
-    three(rt, register_loop_word(0, false, 0x7f_ffff))
+    let words = [
+        register_loop_word(0, false, 0),
+        register_loop_word(0x7f, false, 0),
+        register_loop_word(0, true, 0),
+        register_loop_word(0, false, 0x7f_ffff),
+    ];
+    listed(rt, "registerLoop12a", 12, &words)
 }
 
 fn transfer5b(rt: &HostRuntime) -> io::Result<()> {
-    named(rt, "transfer5b")?;
-    two(rt, transfer_word(0, 0))?;
-    two(rt, transfer_word(0, 0x7c))?;
-    two(rt, transfer_word(0, 2))?;
-    two(rt, transfer_word(0, 1))?;
-    two(rt, transfer_word(0x7f, 0))
+    let words = [
+        transfer_word(0, 0),
+        transfer_word(0, 0x7c),
+        transfer_word(0, 2),
+        transfer_word(0, 1),
+        transfer_word(0x7f, 0),
+    ];
+    listed(rt, "transfer5b", 8, &words)
 }
 
 fn modify3b(rt: &HostRuntime) -> io::Result<()> {
-    named(rt, "modify3b")?;
-    two(rt, pre_word(0, 0, 0, false))?;
-    two(rt, pre_word(0, 7, 0, false))?;
-    two(rt, pre_word(0, 0, 7, false))?;
-    two(rt, pre_word(0, 0, 0, true))?;
-    two(rt, pre_word(0x7f, 0, 0, false))
+    let words = [
+        pre_word(0, 0, 0, false),
+        pre_word(0, 7, 0, false),
+        pre_word(0, 0, 7, false),
+        pre_word(0, 0, 0, true),
+        pre_word(0x7f, 0, 0, false),
+    ];
+    listed(rt, "modify3b", 8, &words)
 }
 
 fn offset15b(rt: &HostRuntime) -> io::Result<()> {
-    named(rt, "offset15b")?;
-    two(rt, near_word(0, 0, 0, false))?;
-    two(rt, near_word(0, 7, 0, false))?;
-    two(rt, near_word(0, 0, 0, true))?;
-    two(rt, near_word(0x7f, 0, 0, false))?;
-    two(rt, near_word(0, 0, 0x7f, false))
+    let words = [
+        near_word(0, 0, 0, false),
+        near_word(0, 7, 0, false),
+        near_word(0, 0, 0, true),
+        near_word(0x7f, 0, 0, false),
+        near_word(0, 0, 0x7f, false),
+    ];
+    listed(rt, "offset15b", 8, &words)
 }
 
 fn modify3c(rt: &HostRuntime) -> io::Result<()> {
-    named(rt, "modify3c")?;
-    one(rt, post_word(0, 0, 0, false))?;
-    one(rt, post_word(0, 7, 0, false))?;
-    one(rt, post_word(0, 0, 7, false))?;
-    one(rt, post_word(0, 0, 0, true))?;
-    one(rt, post_word(15, 0, 0, false))
+    let words = [
+        post_word(0, 0, 0, false),
+        post_word(0, 7, 0, false),
+        post_word(0, 0, 7, false),
+        post_word(0, 0, 0, true),
+        post_word(15, 0, 0, false),
+    ];
+    listed(rt, "modify3c", 4, &words)
 }
 
 // Every form: its name, its word with every field zero, then with each field in turn all ones, from high to low.

@@ -1,24 +1,28 @@
 // The code of each condition, and an instruction of every kind with small numbers, from what the port encodes.
-use crate::print::{code, form, named};
-use computes::Made;
-use encode::Form;
+use crate::print::{form, named, word};
 use items::{
-    AluOp, Condition, DataAccess, Direction, FloatMulAlu, Instruction, LoopCount, LoopMode,
-    MemoryAccess, OptionalCompute, Update, VisaInstruction,
+    AluOp, Compute, Condition, DataAccess, Direction, FloatMulAlu, Instruction, LoopCount,
+    LoopMode, MemoryAccess, Update, VisaInstruction,
 };
+use refusals::Refusal;
 use registers::{IndexRegister, ModifyRegister, Register, UniversalRegister};
 use std::io;
 
 // The code of each condition.
 pub fn conditions(rt: &HostRuntime) -> io::Result<()> {
     named(rt, "condition")?;
-    code(rt, words::condition_code(Condition::Eq))?;
-    code(rt, words::condition_code(Condition::Ne))?;
-    code(rt, words::condition_code(Condition::Sv))?;
-    code(rt, words::condition_code(Condition::Sz))?;
-    code(rt, words::condition_code(Condition::NotSv))?;
-    code(rt, words::condition_code(Condition::Always))?;
-    code(rt, words::condition_code(Condition::UnsignedGt))
+    for condition in [
+        Condition::Eq,
+        Condition::Ne,
+        Condition::Sv,
+        Condition::Sz,
+        Condition::NotSv,
+        Condition::Always,
+        Condition::UnsignedGt,
+    ] {
+        word(rt, 2, words::condition_code(condition))?;
+    }
+    Ok(())
 }
 
 // A line with an instruction.
@@ -212,10 +216,10 @@ fn multifunction(op: AluOp) -> FloatMulAlu {
 }
 
 // A line with a compute instruction.
-fn compute(rt: &HostRuntime, kind: u64, made: Made) -> io::Result<()> {
+fn compute(rt: &HostRuntime, kind: u64, made: Result<Compute, Refusal>) -> io::Result<()> {
     match made {
-        Made::Made(k) => visa(rt, kind, VisaInstruction::Compute(k)),
-        Made::Refused(refusal) => form(rt, kind, Form::Refused(refusal)),
+        Ok(k) => visa(rt, kind, VisaInstruction::Compute(k)),
+        Err(refusal) => form(rt, kind, Err(refusal)),
     }
 }
 
@@ -228,7 +232,7 @@ fn computed(rt: &HostRuntime) -> io::Result<()> {
 
 // The moves beside a compute: here none.
 fn moves(rt: &HostRuntime) -> io::Result<()> {
-    let compute = OptionalCompute::Nothing;
+    let compute = None;
     let dm = DataAccess {
         direction: Direction::Load,
         register: Register(1),

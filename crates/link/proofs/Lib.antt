@@ -1,4 +1,3 @@
-pub mod Values
 pub mod Whole
 pub mod Nameless
 pub mod Exports

@@ -128,7 +128,7 @@ pub extern "C" fn lhodrupesh_slot_check(rows: &[u32], names: &[u8]) -> Told
 pub extern "C" fn lhodrupesh_bytes(parcels: &[u16], bytes: &mut [u8]) -> ToldBytes
     ensures { Writes parcels.now bytes.old result bytes.new }
 {
-    parcel_bytes::parcels_to_bytes(parcels, bytes).told()
+    ToldBytes::from(parcel_bytes::parcels_to_bytes(parcels, bytes))
 }
 
 // Parcels read back into rows: its answer in numbers, and what it leaves in the lent rows and places.
@@ -140,7 +140,7 @@ pub extern "C" fn lhodrupesh_read_back(
 ) -> ToldRows
     ensures { ReadsBack parcels.now rows.old places.old result rows.new places.new }
 {
-    reading::read_back(parcels, rows, places).told()
+    reading::told(reading::read_back(parcels, rows, places))
 }
 
 // The rows copied, the short instructions of loop tails as their full-width twins: its answer in numbers, and what it leaves in the lent copy
@@ -154,5 +154,5 @@ pub extern "C" fn lhodrupesh_widen(
 ) -> ToldWidened
     ensures { Widens rows.now names.now copy.old changes.old result copy.new changes.new }
 {
-    widening::widen(rows, names, copy, changes).told()
+    widening::told(widening::widen(rows, names, copy, changes))
 }

@@ -1,34 +1,31 @@
--- What it says that a loop end's checks are passed, and what a step and a buffer come to once a row's verdict is known.
+-- What it says that a loop end's checks are passed; and a buffer that is the same whatever the verdict.
 use mathlib.Core.Path.{◌≡◌, refl}
 use mathlib.Core.Bool.{false}
 use mathlib.Core.List.{List}
 use Prim.Native.Nat.{ℕ, ◌<◌}
 use native.Mathlib.Omega.{arith}
 use borrow.Author.Tests.{eqb-false}
-use Rattle.refusals.specs.declared.Refusal.{Refusal}
-use Rattle.refusals.specs.declared.Verdict.{Verdict}
-use Rattle.refusals.specs.declared.Verdict.TheVariants.{Good, Refused}
+use Rattle.std.specs.Prelude.{Ok, Err}
+use Rattle.refusals.specs.Answers.{Verdict}
 use Rattle.refusals.specs.Order.{if_good}
 use Rattle.encode.specs.Encoding.{form_verdict}
 use Rattle.places.specs.declared.OpenLoop.{OpenLoop}
 use Rattle.refusals.proofs.Order.{or_else-good}
 use Rattle.checks.proofs.Passed.{unmet}
 use Rattle.machine.specs.declared.State.{State}
-use Rattle.machine.specs.declared.Step.{Step}
-use Rattle.machine.specs.declared.Step.TheVariants.{Stop}
-use Rattle.machine.specs.Machine.{tail_short, top_form, end_chk, step_by}
+use Rattle.machine.specs.Machine.{tail_short, top_form, end_chk}
 
 pub record EndGood (s : State) (top : OpenLoop) : Type 0 where
   pub inside : 0 < s.depth
   pub body : s.count ≡ top.first → ⊥
   pub alone : s.ended ≡ s.count → ⊥
   pub tail : tail_short top.first s.short s.count ≡ false
-  pub reaches : form_verdict (top_form s top) ≡ Good
+  pub reaches : form_verdict (top_form s top) ≡ Ok tt
 
 some : (n : ℕ) → (n ≡ 0 → ⊥) → 0 < n
 some n h = omega arith
 
-pub end-good : (s : State) (top : OpenLoop) → end_chk s top ≡ Good → EndGood s top
+pub end-good : (s : State) (top : OpenLoop) → end_chk s top ≡ Ok tt → EndGood s top
 end-good s top e =
     let a = unmet _ _ _ e in
     let b = unmet _ _ _ a.1 in
@@ -37,19 +34,6 @@ end-good s top e =
     let f = or_else-good _ _ d.1 in
     record { inside = some _ (eqb-false _ _ a.0); body = eqb-false _ _ b.0; alone = eqb-false _ _ c.0; tail = d.0; reaches = f.0 }
 
--- ---- what the step and a buffer come to, once the checks' verdict is known
-pub stopped : {v : Verdict} {r : Refusal} (x : Step) → v ≡ Refused r → Stop r ≡ step_by v x
-stopped x e = rw e
-
-pub went : {v : Verdict} (x : Step) → v ≡ Good → x ≡ step_by v x
-went x e = rw e
-
-pub kept : {v : Verdict} {r : Refusal} (new old : List ℕ) → v ≡ Refused r → old ≡ if_good v new old
-kept new old e = rw e
-
-pub took : {v : Verdict} (new old : List ℕ) {x : List ℕ} → v ≡ Good → x ≡ new → x ≡ if_good v new old
-took new old e z = rw e z
-
 pub same-either : (v : Verdict) (l : List ℕ) → l ≡ if_good v l l
-same-either Good l = refl
-same-either (Refused r) l = refl
+same-either (Ok _) l = refl
+same-either (Err r) l = refl

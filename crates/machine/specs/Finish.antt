@@ -1,12 +1,10 @@
 -- An instrument of the build's proof: the end of a build, the waiting jumps, and what is left in the buffers.
-use Rattle.std.specs.Prelude.{cond, List, ℕ, zero, suc, ◌+◌, ◌*◌, get_or, set, ltb}
+use Rattle.std.specs.Prelude.{cond, List, ℕ, zero, suc, ◌+◌, ◌*◌, get_or, set, ltb, Ok, Err}
 use Rattle.refusals.specs.declared.Refusal.{Refusal}
 use Rattle.refusals.specs.declared.Refusal.TheVariants.{UnclosedLoop}
-use Rattle.refusals.specs.declared.Verdict.{Verdict}
-use Rattle.refusals.specs.declared.Verdict.TheVariants.{Good, Refused}
+use Rattle.refusals.specs.Answers.{Verdict}
 use Rattle.places.specs.declared.OpenLoop.{OpenLoop}
 use Rattle.places.specs.declared.Rooms.{Rooms}
-use Rattle.refusals.specs.declared.Answer.TheVariants as answer
 use Rattle.places.specs.Items.{Kernel, label_width, jump_width}
 use Rattle.places.specs.Looking.{opener}
 use Rattle.refusals.specs.Order.{when, or_else}
@@ -30,7 +28,7 @@ level d s = st s.at s.labels s.jumps d s.count s.last s.short s.shortat s.ended
 -- refused, and a row named: zeros in what the rows took
 abbrev pub wiped : Mem → Refusal → ℕ → Outcome
 wiped m why row =
-    outcome (answer.Refused why row) (lent_of (zeroed m.s.at m.lent.parcels) (zeroed (label_width * m.s.labels) m.lent.labels) (zeroed (jump_width * m.s.jumps) m.lent.jumps) m.lent.loops)
+    outcome (Err (record { why = why; row = row })) (lent_of (zeroed m.s.at m.lent.parcels) (zeroed (label_width * m.s.labels) m.lent.labels) (zeroed (jump_width * m.s.jumps) m.lent.jumps) m.lent.loops)
 
 abbrev pub with_p : Mem → List ℕ → Mem
 with_p m ps = mem_of m.s (with_parcels m.lent ps)
@@ -56,13 +54,13 @@ module _ (k : Kernel) (m : Mem) where
   aims_p = scan_at waits settles m.lent.parcels aims_end
 
 abbrev pub aims_out : ℕ → Verdict → Mem → Outcome
-aims_out row Good m = outcome (answer.Accepted m.s.at) m.lent
-aims_out row (Refused why) m = wiped m why row
+aims_out row (Ok _) m = outcome (Ok m.s.at) m.lent
+aims_out row (Err why) m = wiped m why row
 
 -- once the rows are taken in, with this verdict on them, which names this row
 abbrev pub finish : Kernel → ℕ → Verdict → Mem → Outcome
-finish k row (Refused why) m = wiped m why row
-finish k row Good m = aims_out (aims_row k m) (aims_of k m) (with_p m (aims_p k m))
+finish k row (Err why) m = wiped m why row
+finish k row (Ok _) m = aims_out (aims_row k m) (aims_of k m) (with_p m (aims_p k m))
 
 -- the verdict on the rows, 23 after theirs; the row that it names, e rows having passed: the next, or past the last row the innermost loop
 -- start still open; the memory with every loop closed

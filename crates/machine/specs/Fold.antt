@@ -1,7 +1,7 @@
 -- An instrument of the build's proof: the state and the buffers along the rows.
 use Rattle.std.specs.Prelude.{ℕ, zero, suc}
-use Rattle.refusals.specs.declared.Verdict.{Verdict}
-use Rattle.coded.specs.declared.Coded.{Coded}
+use Rattle.refusals.specs.Answers.{Verdict}
+use Rattle.coded.specs.Coded.{Coded}
 use Rattle.places.specs.declared.Rooms.{Rooms}
 use Rattle.places.specs.Items.{Kernel}
 use Rattle.machine.specs.declared.State.{State}

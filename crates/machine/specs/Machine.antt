@@ -1,23 +1,21 @@
 -- An instrument of the build's proof: what a row's checks say of a state, and what a row makes of the state and of each lent buffer.
-use Rattle.std.specs.Prelude.{◌≡◌, Bool, cond, ◌&&◌, List, [], ◌∷◌, ℕ, ◌+◌, ◌-◌, ◌*◌, ◌≤◌, ◌<◌, ◌%◌, length, get_or, set, ltb, eqb, pos, ◌-ℤ◌}
+use Rattle.std.specs.Prelude.{◌≡◌, Bool, cond, ◌&&◌, List, [], ◌∷◌, ℕ, ◌+◌, ◌-◌, ◌*◌, ◌≤◌, ◌<◌, ◌%◌, length, get_or, set, ltb, eqb, pos, ◌-ℤ◌, Ok, Err, Result}
 use Rattle.std.proofs.lemmas.List.Edits.{sets}
 use Rattle.refusals.specs.declared.Refusal.TheVariants.{EmptyLoop, UnmatchedLoopEnd, SharedLoopEnd, LoopTailNotFullWidth}
-use Rattle.refusals.specs.declared.Verdict.{Verdict}
-use Rattle.refusals.specs.declared.Verdict.TheVariants.{Good, Refused}
+use Rattle.refusals.specs.Answers.{Verdict}
+use Rattle.encode.specs.declared.Form.{Form}
+use Rattle.refusals.specs.declared.Refusal.{Refusal}
+use Rattle.coded.specs.Coded.{Coded, of_jump}
 use Rattle.refusals.specs.Order.{when, first, if_good}
 use Rattle.items.specs.declared.LoopCount.{LoopCount}
 use Rattle.items.specs.declared.LoopCount.TheVariants.{Immediate, Register}
 use Rattle.items.specs.declared.LoopMode.{LoopMode}
 use Rattle.items.specs.declared.LoopMode.TheVariants.{E2Active, F1Active}
-use Rattle.encode.specs.declared.Form.{Form}
 use Rattle.encode.specs.Encoding.{form_parcels, form_verdict, loop_form, settled}
 use Rattle.coded.specs.declared.Coding.{Coding}
-use Rattle.coded.specs.declared.Coded.{Coded}
-use Rattle.coded.specs.declared.Coded.TheVariants as coded
-use Rattle.coded.specs.declared.Coded.TheVariants.{Instruction, Label, Jump, LoopBegin, LoopEnd}
+use Rattle.items.specs.declared.Item.TheVariants.{Instruction, Label, Jump, LoopBegin, LoopEnd}
 use Rattle.places.specs.declared.OpenLoop.{OpenLoop}
 use Rattle.places.specs.declared.Rooms.{Rooms}
-use Rattle.coded.specs.Coded.{of_jump}
 use Rattle.places.specs.Items.{size_of, address_of, label_width, jump_width}
 use Rattle.places.specs.Looking.{loop_tail}
 use Rattle.places.specs.Left.{Lent, lent_of, zeros, zero_loop}
@@ -26,7 +24,7 @@ use Rattle.checks.specs.Checks.{instruction_chk, label_chk, jump_chk, begin_chk}
 use Rattle.checks.specs.Rooming.{Rooming, RoomingIn}
 use Rattle.machine.specs.declared.State.{State}
 use Rattle.machine.specs.declared.Step.{Step}
-use Rattle.machine.specs.declared.Step.TheVariants.{On, Opened, Closed, Stop}
+use Rattle.machine.specs.declared.Step.TheVariants.{On, Opened, Closed}
 
 -- ---- loop records: place, first body entry, count, mode
 -- an immediate count as itself, a register's code past 65536
@@ -49,7 +47,7 @@ abbrev pub top_of : State → List OpenLoop → OpenLoop
 top_of s ks = get_or ks (s.depth - 1) zero_loop
 
 -- the loop start's word, were the loop of this record to end here
-unfoldable pub top_form : State → OpenLoop → Form
+unfoldable pub top_form : State → OpenLoop → Result Form Refusal
 top_form s top = loop_form (count_from top.count) (mode_from top.mode) (pos s.last -ℤ pos (address_of top.place))
 
 -- ---- what a loop end checks; the other kinds of rows: checks/specs/Checks.antt
@@ -93,83 +91,83 @@ abbrev pub end_next : State → State
 end_next s = st s.at s.labels s.jumps (s.depth - 1) s.count s.last s.short s.shortat s.count
 
 -- ---- the contracts of the methods: the step, and each buffer it may write
-abbrev pub step_by : Verdict → Step → Step
-step_by Good x = x
-step_by (Refused r) x = Stop r
+abbrev pub step_by : Verdict → Result Step Refusal → Result Step Refusal
+step_by (Ok _) x = x
+step_by (Err r) x = Err r
 
-pub record Instructed (s : State) (r : Rooms) (c : Coding) (p : List ℕ) (x : Step) (p' : List ℕ) : Type 0 where
-  pub answer : x ≡ step_by (instruction_chk r s.at s.depth c) (On (advanced (size_of c.form) s))
+pub record Instructed (s : State) (r : Rooms) (c : Coding) (p : List ℕ) (x : Result Step Refusal) (p' : List ℕ) : Type 0 where
+  pub answer : x ≡ step_by (instruction_chk r s.at s.depth c) (Ok (On (advanced (size_of c.form) s)))
   pub parcels : p' ≡ if_good (instruction_chk r s.at s.depth c) (sets p s.at (form_parcels c.form)) p
 
-pub record Labelled (ns : List ℕ) (s : State) (r : Rooms) (ls : List ℕ) (a b : ℕ) (x : Step) (ls' : List ℕ) : Type 0 where
-  pub answer : x ≡ step_by (label_chk r s.depth ns ls s.labels a b) (On (label_next s))
+pub record Labelled (ns : List ℕ) (s : State) (r : Rooms) (ls : List ℕ) (a b : ℕ) (x : Result Step Refusal) (ls' : List ℕ) : Type 0 where
+  pub answer : x ≡ step_by (label_chk r s.depth ns ls s.labels a b) (Ok (On (label_next s)))
   pub labels : ls' ≡ if_good (label_chk r s.depth ns ls s.labels a b) (sets ls (label_width * s.labels) (a ∷ b ∷ address_of s.at ∷ [])) ls
 
-pub record Jumped (s : State) (r : Rooms) (row : ℕ) (p js : List ℕ) (x : Step) (p' js' : List ℕ) : Type 0 where
-  pub answer : x ≡ step_by (jump_chk r s.at s.jumps s.depth) (On (jump_next s))
+pub record Jumped (s : State) (r : Rooms) (row : ℕ) (p js : List ℕ) (x : Result Step Refusal) (p' js' : List ℕ) : Type 0 where
+  pub answer : x ≡ step_by (jump_chk r s.at s.jumps s.depth) (Ok (On (jump_next s)))
   pub parcels : p' ≡ if_good (jump_chk r s.at s.jumps s.depth) (sets p s.at zeros) p
   pub jumps : js' ≡ if_good (jump_chk r s.at s.jumps s.depth) (sets js (jump_width * s.jumps) (s.at ∷ row ∷ [])) js
 
-pub record Begun (s : State) (r : Rooms) (c : LoopCount) (m : LoopMode) (p : List ℕ) (x : Step) (p' : List ℕ) : Type 0 where
-  pub answer : x ≡ step_by (begin_chk r s.at s.depth) (Opened (begin_next s) (begin_record s c m))
+pub record Begun (s : State) (r : Rooms) (c : LoopCount) (m : LoopMode) (p : List ℕ) (x : Result Step Refusal) (p' : List ℕ) : Type 0 where
+  pub answer : x ≡ step_by (begin_chk r s.at s.depth) (Ok (Opened (begin_next s) (begin_record s c m)))
   pub parcels : p' ≡ if_good (begin_chk r s.at s.depth) (sets p s.at zeros) p
 
-pub record Ended (s : State) (top : OpenLoop) (p : List ℕ) (x : Step) (p' : List ℕ) : Type 0 where
-  pub answer : x ≡ step_by (end_chk s top) (Closed (end_next s))
+pub record Ended (s : State) (top : OpenLoop) (p : List ℕ) (x : Result Step Refusal) (p' : List ℕ) : Type 0 where
+  pub answer : x ≡ step_by (end_chk s top) (Ok (Closed (end_next s)))
   pub parcels : p' ≡ if_good (end_chk s top) (sets p top.place (settled (top_form s top))) p
 
 -- ---- what a row checks, and what it makes of the state and each buffer, the innermost open loop having the record top
 abbrev pub check_row : List ℕ → Rooms → Coded → State → List ℕ → OpenLoop → Verdict
-check_row ns r (Instruction c) s ls top = instruction_chk r s.at s.depth c
-check_row ns r (Label a b) s ls top = label_chk r s.depth ns ls s.labels a b
-check_row ns r (Jump c a b) s ls top = jump_chk r s.at s.jumps s.depth
-check_row ns r (LoopBegin c k) s ls top = begin_chk r s.at s.depth
-check_row ns r LoopEnd s ls top = end_chk s top
-check_row ns r (coded.Refused why) s ls top = Refused why
+check_row ns r (Ok (Instruction c)) s ls top = instruction_chk r s.at s.depth c
+check_row ns r (Ok (Label a b)) s ls top = label_chk r s.depth ns ls s.labels a b
+check_row ns r (Ok (Jump c a b)) s ls top = jump_chk r s.at s.jumps s.depth
+check_row ns r (Ok (LoopBegin c k)) s ls top = begin_chk r s.at s.depth
+check_row ns r (Ok LoopEnd) s ls top = end_chk s top
+check_row ns r (Err why) s ls top = Err why
 
-abbrev pub step_row : Coded → State → Step
-step_row (Instruction c) s = On (advanced (size_of c.form) s)
-step_row (Label a b) s = On (label_next s)
-step_row (Jump c a b) s = On (jump_next s)
-step_row (LoopBegin c m) s = Opened (begin_next s) (begin_record s c m)
-step_row LoopEnd s = Closed (end_next s)
-step_row (coded.Refused why) s = On s
+abbrev pub step_row : Coded → State → Result Step Refusal
+step_row (Ok (Instruction c)) s = Ok (On (advanced (size_of c.form) s))
+step_row (Ok (Label a b)) s = Ok (On (label_next s))
+step_row (Ok (Jump c a b)) s = Ok (On (jump_next s))
+step_row (Ok (LoopBegin c m)) s = Ok (Opened (begin_next s) (begin_record s c m))
+step_row (Ok LoopEnd) s = Ok (Closed (end_next s))
+step_row (Err why) s = Ok (On s)
 
 abbrev pub parcels_row : Coded → State → OpenLoop → List ℕ → List ℕ
-parcels_row (Instruction c) s top p = sets p s.at (form_parcels c.form)
-parcels_row (Label a b) s top p = p
-parcels_row (Jump c a b) s top p = sets p s.at zeros
-parcels_row (LoopBegin c m) s top p = sets p s.at zeros
-parcels_row LoopEnd s top p = sets p top.place (settled (top_form s top))
-parcels_row (coded.Refused why) s top p = p
+parcels_row (Ok (Instruction c)) s top p = sets p s.at (form_parcels c.form)
+parcels_row (Ok (Label a b)) s top p = p
+parcels_row (Ok (Jump c a b)) s top p = sets p s.at zeros
+parcels_row (Ok (LoopBegin c m)) s top p = sets p s.at zeros
+parcels_row (Ok LoopEnd) s top p = sets p top.place (settled (top_form s top))
+parcels_row (Err why) s top p = p
 
 abbrev pub labels_row : Coded → State → List ℕ → List ℕ
-labels_row (Instruction c) s ls = ls
-labels_row (Label a b) s ls = sets ls (label_width * s.labels) (a ∷ b ∷ address_of s.at ∷ [])
-labels_row (Jump c a b) s ls = ls
-labels_row (LoopBegin c m) s ls = ls
-labels_row LoopEnd s ls = ls
-labels_row (coded.Refused why) s ls = ls
+labels_row (Ok (Instruction c)) s ls = ls
+labels_row (Ok (Label a b)) s ls = sets ls (label_width * s.labels) (a ∷ b ∷ address_of s.at ∷ [])
+labels_row (Ok (Jump c a b)) s ls = ls
+labels_row (Ok (LoopBegin c m)) s ls = ls
+labels_row (Ok LoopEnd) s ls = ls
+labels_row (Err why) s ls = ls
 
 abbrev pub jumps_row : ℕ → Coded → State → List ℕ → List ℕ
 jumps_row row x s js = of_jump (λ c a b. sets js (jump_width * s.jumps) (s.at ∷ row ∷ [])) js x
 
 -- the step's state
-abbrev pub step_state : Step → State → State
-step_state (On s') s = s'
-step_state (Opened s' start) s = s'
-step_state (Closed s') s = s'
-step_state (Stop r) s = s
+abbrev pub step_state : Result Step Refusal → State → State
+step_state (Ok (On s')) s = s'
+step_state (Ok (Opened s' start)) s = s'
+step_state (Ok (Closed s')) s = s'
+step_state (Err r) s = s
 
 -- the loop table: a record pushed, or popped and zeroed
-abbrev pub loops_by : Step → State → List OpenLoop → List OpenLoop
-loops_by (On s') s ks = ks
-loops_by (Opened s' start) s ks = set ks s.depth start
-loops_by (Closed s') s ks = set ks (s.depth - 1) zero_loop
-loops_by (Stop r) s ks = ks
+abbrev pub loops_by : Result Step Refusal → State → List OpenLoop → List OpenLoop
+loops_by (Ok (On s')) s ks = ks
+loops_by (Ok (Opened s' start)) s ks = set ks s.depth start
+loops_by (Ok (Closed s')) s ks = set ks (s.depth - 1) zero_loop
+loops_by (Err r) s ks = ks
 
 -- the loop table stays out of it
-pub record Stepped (ns : List ℕ) (r : Rooms) (rd : Coded) (row : ℕ) (s : State) (lent : Lent) (top : OpenLoop) (x : Step) (left : Lent) : Type 0 where
+pub record Stepped (ns : List ℕ) (r : Rooms) (rd : Coded) (row : ℕ) (s : State) (lent : Lent) (top : OpenLoop) (x : Result Step Refusal) (left : Lent) : Type 0 where
   pub answer : x ≡ step_by (check_row ns r rd s lent.labels top) (step_row rd s)
   pub parcels : left.parcels ≡ if_good (check_row ns r rd s lent.labels top) (parcels_row rd s top lent.parcels) lent.parcels
   pub labels : left.labels ≡ if_good (check_row ns r rd s lent.labels top) (labels_row rd s lent.labels) lent.labels

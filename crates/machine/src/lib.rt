@@ -14,7 +14,7 @@ ghost use Rattle.machine.specs.Machine.{advanced, end_next, tail_short, top_form
 
 use coded::{Coded, Coding};
 use encode::Form;
-use items::{LoopCount, LoopMode};
+use items::{Item, LoopCount, LoopMode};
 use places::{JUMP_WIDTH, LABEL_WIDTH, LOOP_TAIL, OpenLoop, Rooms};
 use refusals::{Refusal, Verdict};
 
@@ -31,7 +31,8 @@ pub struct State {
     // The instruction entries, and the address of the last one.
     pub count: usize,
     pub last: usize,
-    // The latest entry that does not take three parcels: its number from 1, 0 if there is none, and its address.
+    // The latest entry that does not take three parcels: its number from 1, 0 if there is none, and its address. A number and no
+    // Option is the plainer: 0 stands before every body, so one comparison answers for both.
     pub short: usize,
     pub shortat: usize,
     // The entries before the latest loop end.
@@ -51,13 +52,12 @@ pub const START: State = State {
     ended: 0,
 };
 
-// What a row makes of a state: the next one, with a loop opened, of this record, or the innermost closed; or why the row is refused.
+// What a row makes of a state: the next one, with a loop opened, of this record, or the innermost closed.
 #[derive(Clone, Copy)]
 pub enum Step {
     On(State),
     Opened(State, OpenLoop),
     Closed(State),
-    Stop(Refusal),
 }
 
 // Whether the latest short instruction is one of the last 11 of a body.
@@ -65,10 +65,7 @@ fn tail_short(begin: usize, short: usize, count: usize) -> bool
     requires { short ≤ most_parcels }
     ensures { result ≡ tail_short begin short count }
 {
-    if begin < short {
-        return count < short + LOOP_TAIL;
-    }
-    false
+    begin < short && count < short + LOOP_TAIL
 }
 
 impl State {
@@ -77,115 +74,106 @@ impl State {
         requires { (self.at ≤ most_parcels) × (self.count ≤ most_parcels) × (n ≤ 6) }
         ensures { result ≡ advanced n self }
     {
-        let at = self.at;
-        let count = self.count + 1;
-        self.at = at + n;
-        self.count = count;
-        self.last = at;
-        if n == 3 {
-            return self;
+        self.last = self.at;
+        self.at += n;
+        self.count += 1;
+        if n != 3 {
+            self.short = self.count;
+            self.shortat = self.last;
         }
-        self.short = count;
-        self.shortat = at;
         self
     }
 
     // An instruction: its parcels stand at the next place.
-    fn instruction(self, rooms: Rooms, coding: Coding, parcels: &mut [u16]) -> Step
+    fn instruction(self, rooms: Rooms, coding: Coding, parcels: &mut [u16]) -> Result<Step, Refusal>
         requires { (Within self rooms) × (rooms.parcels ≤ length parcels.old) × (rooms.parcels ≤ most_parcels) }
         ensures { Instructed self rooms coding parcels.old result parcels.new }
     {
-        let k = checks::instruction(rooms, self.at, self.depth, coding);
-        match k {
-            Verdict::Refused(r) => {
-                return Step::Stop(r);
-            }
-            Verdict::Good => {}
-        }
+        checks::instruction(rooms, self.at, self.depth, coding)?;
         let form = coding.form;
         tables::put_form(parcels, self.at, form);
-        Step::On(self.advance(encode::form_size(form)))
+        Ok(Step::On(self.advance(encode::form_size(form))))
     }
 
     // A label: its name's range and its address stand in the next label entry.
-    fn label(mut self, rooms: Rooms, names: &[u8], labels: &mut [u32], start: u32, len: u32) -> Step
+    fn label(
+        self,
+        rooms: Rooms,
+        names: &[u8],
+        labels: &mut [u32],
+        start: u32,
+        len: u32,
+    ) -> Result<Step, Refusal>
         requires { (Within self rooms) × (rooms.parcels ≤ most_parcels) × (rooms.labels ≤ most_entries) × (label_width * rooms.labels ≤ length labels.old) × (start + len ≤ length names.now) × Entries names.now labels.old self.labels }
         ensures { Labelled names.now self rooms labels.old start len result labels.new }
     {
         let n = self.labels;
-        let k = checks::label(rooms, self.depth, names, labels, n, start, len);
-        match k {
-            Verdict::Refused(r) => {
-                return Step::Stop(r);
-            }
-            Verdict::Good => {}
-        }
-        tables::store(
-            labels,
-            LABEL_WIDTH * n,
-            [start, len, self.at as u32, 0],
-            LABEL_WIDTH,
-        );
-        self.labels = n + 1;
-        Step::On(self)
+        checks::label(rooms, self.depth, names, labels, n, start, len)?;
+        tables::store(labels, LABEL_WIDTH * n, &[start, len, self.at as u32]);
+        Ok(Step::On(State {
+            labels: n + 1,
+            ..self
+        }))
     }
 
     // A jump: three zeros wait for its word, and its place and row stand in the next jump entry.
-    fn jump(self, rooms: Rooms, row: u32, parcels: &mut [u16], jumps: &mut [u32]) -> Step
+    fn jump(
+        self,
+        rooms: Rooms,
+        row: u32,
+        parcels: &mut [u16],
+        jumps: &mut [u32],
+    ) -> Result<Step, Refusal>
         requires { (Within self rooms) × (rooms.parcels ≤ length parcels.old) × (rooms.parcels ≤ most_parcels) × (rooms.jumps ≤ most_entries) × (jump_width * rooms.jumps ≤ length jumps.old) }
         ensures { Jumped self rooms row parcels.old jumps.old result parcels.new jumps.new }
     {
         let at = self.at;
         let n = self.jumps;
-        let k = checks::jump(rooms, at, n, self.depth);
-        match k {
-            Verdict::Refused(r) => {
-                return Step::Stop(r);
-            }
-            Verdict::Good => {}
-        }
+        checks::jump(rooms, at, n, self.depth)?;
         writer::emit(parcels, at, [0; 6], 3);
-        tables::store(jumps, JUMP_WIDTH * n, [at as u32, row, 0, 0], JUMP_WIDTH);
-        let mut next = self.advance(3);
-        next.jumps = n + 1;
-        Step::On(next)
+        tables::store(jumps, JUMP_WIDTH * n, &[at as u32, row]);
+        Ok(Step::On(State {
+            jumps: n + 1,
+            ..self.advance(3)
+        }))
     }
 
     // A loop start: three zeros wait for its word; its record holds its place, its first body entry, its count and its mode.
-    fn loop_begin(self, rooms: Rooms, count: LoopCount, mode: LoopMode, parcels: &mut [u16]) -> Step
+    fn loop_begin(
+        self,
+        rooms: Rooms,
+        count: LoopCount,
+        mode: LoopMode,
+        parcels: &mut [u16],
+    ) -> Result<Step, Refusal>
         requires { (Within self rooms) × (rooms.parcels ≤ length parcels.old) × (rooms.parcels ≤ most_parcels) × (rooms.loops ≤ most_loops) }
         ensures { Begun self rooms count mode parcels.old result parcels.new }
     {
         let at = self.at;
-        let k = checks::loop_begin(rooms, at, self.depth);
-        match k {
-            Verdict::Refused(r) => {
-                return Step::Stop(r);
-            }
-            Verdict::Good => {}
-        }
-        let mut next = self.advance(3);
+        checks::loop_begin(rooms, at, self.depth)?;
         writer::emit(parcels, at, [0; 6], 3);
+        let next = State {
+            depth: self.depth + 1,
+            ..self.advance(3)
+        };
         let start = OpenLoop {
             place: at as u32,
             first: next.count as u32,
             count: records::count_number(count),
-            mode: records::mode_number(mode),
+            mode: mode as u32,
         };
-        next.depth = self.depth + 1;
-        Step::Opened(next, start)
+        Ok(Step::Opened(next, start))
     }
 
     // The word of the start of the loop of this record, were it to end here.
     #[tactic(auto, unfolding(crate::specs::Machine::top_form))]
-    fn top_form(self, top: OpenLoop) -> Form
+    fn top_form(self, top: OpenLoop) -> Result<Form, Refusal>
         requires { self.last ≤ most_parcels }
         ensures { result ≡ top_form self top }
     {
-        let place = top.place as usize;
         let count = records::count_from(top.count);
         let mode = records::mode_from(top.mode);
-        encode::loop_form(count, mode, signs::apart(self.last, place))
+        encode::loop_form(count, mode, signs::apart(self.last, top.place as usize))
     }
 
     // What a loop end is refused for, the innermost open loop having this record.
@@ -195,18 +183,17 @@ impl State {
         ensures { result ≡ end_chk self top }
     {
         if self.depth == 0 {
-            return Verdict::Refused(Refusal::UnmatchedLoopEnd);
+            return Err(Refusal::UnmatchedLoopEnd);
         }
         let begin = top.first as usize;
-        let count = self.count;
-        if count == begin {
-            return Verdict::Refused(Refusal::EmptyLoop);
+        if self.count == begin {
+            return Err(Refusal::EmptyLoop);
         }
-        if self.ended == count {
-            return Verdict::Refused(Refusal::SharedLoopEnd);
+        if self.ended == self.count {
+            return Err(Refusal::SharedLoopEnd);
         }
-        if tail_short(begin, self.short, count) {
-            return Verdict::Refused(Refusal::LoopTailNotFullWidth(self.shortat as u32));
+        if tail_short(begin, self.short, self.count) {
+            return Err(Refusal::LoopTailNotFullWidth(self.shortat as u32));
         }
         encode::form_verdict(self.top_form(top))
     }
@@ -216,24 +203,20 @@ impl State {
         requires { (0 < self.depth) × (top.place + 3 ≤ length parcels.old) × (self.last ≤ most_parcels) }
         ensures { (result ≡ end_next self) × (parcels.new ≡ sets parcels.old top.place (settled (top_form self top))) }
     {
-        let place = top.place as usize;
         let words = encode::settled(self.top_form(top));
-        writer::mend(parcels, self.at, place, words);
-        self.depth = self.depth - 1;
+        writer::mend(parcels, self.at, top.place as usize, words);
+        self.depth -= 1;
         self.ended = self.count;
         self
     }
 
     // A loop end: the innermost open loop, of this record, ends here.
-    fn loop_end(self, top: OpenLoop, parcels: &mut [u16]) -> Step
+    fn loop_end(self, top: OpenLoop, parcels: &mut [u16]) -> Result<Step, Refusal>
         requires { (self.at ≤ length parcels.old) × (self.last ≤ most_parcels) × (self.short ≤ most_parcels) × (self.shortat ≤ most_parcels) × TopFine self top }
         ensures { Ended self top parcels.old result parcels.new }
     {
-        let k = self.end_check(top);
-        match k {
-            Verdict::Refused(r) => Step::Stop(r),
-            Verdict::Good => Step::Closed(self.close(top, parcels)),
-        }
+        self.end_check(top)?;
+        Ok(Step::Closed(self.close(top, parcels)))
     }
 
     // What a row makes of the state and the buffers, the innermost open loop having this record; or the row's refusal.
@@ -247,21 +230,16 @@ impl State {
         labels: &mut [u32],
         jumps: &mut [u32],
         top: OpenLoop,
-    ) -> Step
+    ) -> Result<Step, Refusal>
         requires { (Fine names.now rooms self (lent_of parcels.old labels.old jumps.old []) top) × CodedFine (length names.now) coded }
         ensures { Stepped names.now rooms coded row self (lent_of parcels.old labels.old jumps.old []) top result (lent_of parcels.new labels.new jumps.new []) }
     {
-        match coded {
-            Coded::Instruction(coding) => self.instruction(rooms, coding, parcels),
-            Coded::Label { start, length } => self.label(rooms, names, labels, start, length),
-            Coded::Jump {
-                condition: _,
-                start: _,
-                length: _,
-            } => self.jump(rooms, row, parcels, jumps),
-            Coded::LoopBegin { count, mode } => self.loop_begin(rooms, count, mode, parcels),
-            Coded::LoopEnd => self.loop_end(top, parcels),
-            Coded::Refused(r) => Step::Stop(r),
+        match coded? {
+            Item::Instruction(coding) => self.instruction(rooms, coding, parcels),
+            Item::Label { start, length } => self.label(rooms, names, labels, start, length),
+            Item::Jump { .. } => self.jump(rooms, row, parcels, jumps),
+            Item::LoopBegin { count, mode } => self.loop_begin(rooms, count, mode, parcels),
+            Item::LoopEnd => self.loop_end(top, parcels),
         }
     }
 }

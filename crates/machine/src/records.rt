@@ -1,6 +1,6 @@
-// Loop records as numbers.
+// Loop records as numbers. Counts, modes and records are other crates' types, so the conversions are functions and no `From`.
 ghost use Rattle.std.specs.Prelude.{◌≡◌};
-ghost use Rattle.machine.specs.Machine.{count_number, count_from, mode_number, mode_from};
+ghost use Rattle.machine.specs.Machine.{count_number, count_from, mode_from};
 
 use items::{LoopCount, LoopMode};
 use registers::UniversalRegister;
@@ -23,16 +23,6 @@ pub fn count_from(n: u32) -> LoopCount
         return LoopCount::Immediate(n as u16);
     }
     LoopCount::Register(UniversalRegister(((n - 65536) % 256) as u8))
-}
-
-// A loop mode as a number, in declaration order.
-pub fn mode_number(mode: LoopMode) -> u32
-    ensures { result ≡ mode_number mode }
-{
-    match mode {
-        LoopMode::E2Active => 0,
-        LoopMode::F1Active => 1,
-    }
 }
 
 // The loop mode that a number stands for.

@@ -6,14 +6,7 @@ ghost use Rattle.parcel_bytes.specs.Bytes.{told_bytes, Writes};
 
 use refusals::Refusal;
 
-// How many bytes were written, or why none.
-#[derive(Clone, Copy)]
-pub enum Written {
-    Bytes(u64),
-    Refused(Refusal),
-}
-
-// The same in numbers: 0 and the bytes written; or a refusal's number with its detail and no bytes. The third detail, a row, is always 0.
+// An answer in numbers: 0 and the bytes written; or a refusal's number with its detail and no bytes. The third detail, a row, is always 0.
 #[repr(C)]
 #[derive(Clone, Copy)]
 pub struct ToldBytes {
@@ -24,20 +17,20 @@ pub struct ToldBytes {
     pub spare: u32,
 }
 
-impl Written {
-    // The answer in numbers.
-    pub fn told(self) -> ToldBytes
-        ensures { result ≡ told_bytes self }
-    {
-        match self {
-            Written::Bytes(bytes) => ToldBytes {
+impl From<Result<u64, Refusal>> for ToldBytes {
+    ghost from_gives = { λ written told. told ≡ told_bytes written };
+
+    // How many bytes were written, or why none, in numbers.
+    fn from(written: Result<u64, Refusal>) -> ToldBytes {
+        match written {
+            Ok(bytes) => ToldBytes {
                 bytes,
                 first: 0,
                 third: 0,
                 number: 0,
                 spare: 0,
             },
-            Written::Refused(refusal) => {
+            Err(refusal) => {
                 let told = refusal.told();
                 ToldBytes {
                     bytes: 0,
@@ -53,22 +46,14 @@ impl Written {
 
 // The parcels' bytes at the front of the lent ones, low byte first, and their number; the bytes after them stay as they were.
 // With fewer bytes than twice the parcels nothing is written.
-pub fn parcels_to_bytes(parcels: &[u16], bytes: &mut [u8]) -> Written
+pub fn parcels_to_bytes(parcels: &[u16], bytes: &mut [u8]) -> Result<u64, Refusal>
     ensures { Writes parcels.now bytes.old (told_bytes result) bytes.new }
 {
-    let n = parcels.len();
-    if bytes.len() / 2 < n {
-        return Written::Refused(Refusal::NoRoomForBytes(bytes.len() as u64));
+    if bytes.len() / 2 < parcels.len() {
+        return Err(Refusal::NoRoomForBytes(bytes.len() as u64));
     }
-    let mut i = 0;
-    while i < n {
-        let p = parcels[i];
-        let low = (p % 0x100) as u8;
-        let high = (p / 0x100) as u8;
-        bytes[2 * i] = low;
-        bytes[2 * i + 1] = high;
-        i += 1;
+    for (i, parcel) in parcels.iter().enumerate() {
+        bytes[2 * i..2 * i + 2].copy_from_slice(&parcel.to_le_bytes());
     }
-    let written = 2 * n;
-    Written::Bytes(written as u64)
+    Ok(2 * parcels.len() as u64)
 }

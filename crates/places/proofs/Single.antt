@@ -3,7 +3,7 @@ use Prim.Native.Nat.{ℕ}
 use mathlib.Core.Path.{◌≡◌, sym, ◌∙◌}
 use mathlib.Core.List.{List}
 use Rattle.refusals.specs.declared.Told.{Told}
-use Rattle.refusals.specs.declared.Answer.{Answer}
+use Rattle.refusals.specs.Answers.{Answer}
 use Rattle.places.specs.Left.{Lent, lent_of, build_of, Builds, BuildsAlone, HandsBack}
 
 -- what is left is what the build comes to

@@ -1,11 +1,11 @@
 -- The items of a list, and what is counted over the first i of them.
-use Rattle.std.specs.Prelude.{Bool, cond, List, ℕ, zero, suc, ◌+◌, ◌-◌, ◌*◌, ◌/◌, min, length, take, drop, eqb}
+use Rattle.std.specs.Prelude.{Bool, cond, List, ℕ, zero, suc, ◌+◌, ◌-◌, ◌*◌, ◌/◌, min, length, take, drop, eqb, Ok, Err, Result}
 use Rattle.encode.specs.declared.Form.{Form}
+use Rattle.refusals.specs.declared.Refusal.{Refusal}
+use Rattle.coded.specs.Coded.{Coded, coded_of}
 use Rattle.encode.specs.Encoding.{form_parcels}
 use Rattle.rows.specs.Rows.{row_width, read_of}
-use Rattle.coded.specs.declared.Coded.{Coded}
-use Rattle.coded.specs.declared.Coded.TheVariants.{Instruction, Label, Jump, LoopBegin, LoopEnd, Refused}
-use Rattle.coded.specs.Coded.{coded_of}
+use Rattle.items.specs.declared.Item.TheVariants.{Instruction, Label, Jump, LoopBegin, LoopEnd}
 use Rattle.places.specs.declared.Rooms.{Rooms}
 use Rattle.places.specs.declared.Traits.{Traits}
 
@@ -34,17 +34,17 @@ kernel_of rows names = kernel names (row_at rows names) (row_count rows)
 abbrev pub traits : ℕ → ℕ → ℕ → ℕ → ℕ → ℕ → ℕ → ℕ → ℕ → Traits
 traits s e l j n o c a b = record { size = s; entry = e; label = l; jump = j; short = n; opens = o; closes = c; start = a; len = b }
 
-abbrev pub size_of : Form → ℕ
+abbrev pub size_of : Result Form Refusal → ℕ
 size_of f = length (form_parcels f)
 
 -- "Labels emit nothing. Jumps and loop starts take three parcels."
 abbrev pub about : Coded → Traits
-about (Instruction c) = traits (size_of c.form) 1 0 0 (cond (eqb (size_of c.form) 3) 0 1) 0 0 0 0
-about (Label a b) = traits 0 0 1 0 0 0 0 a b
-about (Jump c a b) = traits 3 1 0 1 0 0 0 a b
-about (LoopBegin c m) = traits 3 1 0 0 0 1 0 0 0
-about LoopEnd = traits 0 0 0 0 0 0 1 0 0
-about (Refused r) = traits 0 0 0 0 0 0 0 0 0
+about (Ok (Instruction c)) = traits (size_of c.form) 1 0 0 (cond (eqb (size_of c.form) 3) 0 1) 0 0 0 0
+about (Ok (Label a b)) = traits 0 0 1 0 0 0 0 a b
+about (Ok (Jump c a b)) = traits 3 1 0 1 0 0 0 a b
+about (Ok (LoopBegin c m)) = traits 3 1 0 0 0 1 0 0 0
+about (Ok LoopEnd) = traits 0 0 0 0 0 0 1 0 0
+about (Err r) = traits 0 0 0 0 0 0 0 0 0
 
 abbrev pub size : Coded → ℕ
 size x = (about x).size

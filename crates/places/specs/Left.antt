@@ -1,11 +1,9 @@
 -- What a build leaves in the lent buffers. Document 01, "Rooms and what is left".
-use Rattle.std.specs.Prelude.{◌≡◌, cond, false, List, [], ◌∷◌, ◌++◌, ℕ, zero, suc, length, drop, replicate}
+use Rattle.std.specs.Prelude.{◌≡◌, cond, false, List, [], ◌∷◌, ◌++◌, ℕ, zero, suc, length, drop, replicate, Ok, Err}
 use Rattle.refusals.specs.declared.Told.{Told}
-use Rattle.refusals.specs.declared.Answer.{Answer}
-use Rattle.refusals.specs.declared.Answer.TheVariants as answer
+use Rattle.refusals.specs.Answers.{Answer, Verdict, Judged}
+use Rattle.coded.specs.Coded.{Coded}
 use Rattle.refusals.specs.declared.Refusal.TheVariants.{RowSlice}
-use Rattle.refusals.specs.declared.Verdict.{Verdict}
-use Rattle.refusals.specs.declared.Judged.{Judged}
 use Rattle.refusals.specs.Numbers.{answer_of, answered}
 use Rattle.refusals.specs.Order.{if_good}
 use Rattle.items.specs.declared.Condition.{Condition}
@@ -13,9 +11,7 @@ use Rattle.items.specs.declared.LoopCount.{LoopCount}
 use Rattle.items.specs.declared.LoopMode.{LoopMode}
 use Rattle.encode.specs.Encoding.{form_parcels, jump_form, loop_form, settled}
 use Rattle.rows.specs.Rows.{well_formed}
-use Rattle.coded.specs.declared.Coded.{Coded}
-use Rattle.coded.specs.declared.Coded.TheVariants as coded
-use Rattle.coded.specs.declared.Coded.TheVariants.{Instruction, Label, Jump, LoopBegin, LoopEnd}
+use Rattle.items.specs.declared.Item.TheVariants.{Instruction, Label, Jump, LoopBegin, LoopEnd}
 use Rattle.places.specs.declared.OpenLoop.{OpenLoop}
 use Rattle.places.specs.declared.Rooms.{Rooms}
 use Rattle.places.specs.Items.{Kernel, kernel_of, place, address, rooms_of}
@@ -61,12 +57,12 @@ module _ (k : Kernel) where
 
   -- what item i leaves: parcels; "Label entries (start, length, place) and waiting jumps (place, row)"
   abbrev pub left : ℕ → Coded → Lent
-  left i (Instruction c) = lent_of (form_parcels c.form) [] [] []
-  left i (Label a b) = lent_of [] (a ∷ b ∷ address it i ∷ []) [] []
-  left i (Jump c a b) = lent_of (jump_parcels it c i (labelled k a b n)) [] (place it i ∷ i ∷ []) []
-  left i (LoopBegin c m) = lent_of (loop_parcels it c m i (closer it n i)) [] [] []
-  left i LoopEnd = lent_of [] [] [] []
-  left i (coded.Refused r) = lent_of [] [] [] []
+  left i (Ok (Instruction c)) = lent_of (form_parcels c.form) [] [] []
+  left i (Ok (Label a b)) = lent_of [] (a ∷ b ∷ address it i ∷ []) [] []
+  left i (Ok (Jump c a b)) = lent_of (jump_parcels it c i (labelled k a b n)) [] (place it i ∷ i ∷ []) []
+  left i (Ok (LoopBegin c m)) = lent_of (loop_parcels it c m i (closer it n i)) [] [] []
+  left i (Ok LoopEnd) = lent_of [] [] [] []
+  left i (Err r) = lent_of [] [] [] []
 
 -- f 0, .., f (i - 1), one after the other
 abbrev pub gather : (ℕ → List ℕ) → ℕ → List ℕ
@@ -111,7 +107,7 @@ module _ (k : Kernel) (lent : Lent) where
 
 -- 1 changes nothing and names no row; else the rows are built
 abbrev pub build_of : List ℕ → List ℕ → Lent → Outcome
-build_of rows names lent = cond (well_formed (length rows)) (built (kernel_of rows names) lent) (outcome (answer.Refused RowSlice 0) lent)
+build_of rows names lent = cond (well_formed (length rows)) (built (kernel_of rows names) lent) (outcome (Err (record { why = RowSlice; row = 0 })) lent)
 
 -- THE CONTRACT of a build: what is told, in document 01's numbers, and what is left, are what the build comes to
 pub record Builds (rows names : List ℕ) (lent : Lent) (told : Told) (left : Lent) : Type 0 where

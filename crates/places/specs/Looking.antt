@@ -1,6 +1,6 @@
 -- Looking back over the items: which label has a name, which loop is open, which instruction is the last.
 use Rattle.std.specs.Prelude.{Bool, true, false, cond, ◌&&◌, List, [], ℕ, zero, suc, ◌+◌, max, length, get_or, take, drop, ltb, leb, eqb}
-use Rattle.coded.specs.declared.Coded.{Coded}
+use Rattle.coded.specs.Coded.{Coded}
 use Rattle.places.specs.Items.{Kernel, about, is_end, is_short, address, entries, nest}
 
 -- f of the latest index before i that passes the test; the other if none does

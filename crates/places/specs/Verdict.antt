@@ -1,29 +1,25 @@
 -- What a build answers. Document 01, "Order": "1; then rows in turn; then 23; then jumps in item order, 12 before 9"; document 02, wish 3: and
 -- which row it names.
-use Rattle.std.specs.Prelude.{false, ◌&&◌, List, [], ◌∷◌, ℕ, ◌+◌, ltb, eqb, ℤ, pos, ◌-ℤ◌}
+use Rattle.std.specs.Prelude.{false, ◌&&◌, List, [], ◌∷◌, ℕ, ◌+◌, ltb, eqb, ℤ, pos, ◌-ℤ◌, Ok, Err, Result}
 use Rattle.refusals.specs.declared.Refusal.{Refusal}
 use Rattle.refusals.specs.declared.Refusal.TheVariants.{DuplicateLabel, UndefinedLabel, EmptyLoop, UnclosedLoop, UnmatchedLoopEnd, SharedLoopEnd, LoopTailNotFullWidth, BranchInLoop, LabelInLoop, NoRoomForParcels, NoRoomForLabels, NoRoomForJumps, NoRoomForLoops}
-use Rattle.refusals.specs.declared.Verdict.{Verdict}
-use Rattle.refusals.specs.declared.Verdict.TheVariants.{Good, Refused}
-use Rattle.refusals.specs.declared.Judged.{Judged}
+use Rattle.refusals.specs.Answers.{Verdict, Judged}
+use Rattle.encode.specs.declared.Form.{Form}
+use Rattle.coded.specs.Coded.{Coded, of_jump, of_loop}
 use Rattle.refusals.specs.Order.{when, first, passing, said_of_row, first_in, foremost}
 use Rattle.items.specs.Kinds.{is_branch}
 use Rattle.items.specs.declared.Condition.{Condition}
-use Rattle.encode.specs.declared.Form.{Form}
 use Rattle.encode.specs.declared.Form.TheVariants as form
 use Rattle.encode.specs.Encoding.{form_verdict, jump_form, loop_form}
-use Rattle.coded.specs.declared.Coded.{Coded}
-use Rattle.coded.specs.declared.Coded.TheVariants as coded
-use Rattle.coded.specs.declared.Coded.TheVariants.{Instruction, Label, Jump, LoopBegin, LoopEnd}
+use Rattle.items.specs.declared.Item.TheVariants.{Instruction, Label, Jump, LoopBegin, LoopEnd}
 use Rattle.places.specs.declared.Rooms.{Rooms}
-use Rattle.coded.specs.Coded.{of_jump, of_loop}
 use Rattle.places.specs.Items.{Kernel, size_of, is_label, is_jump, total, place, address, entries, nest}
 use Rattle.places.specs.Looking.{Found, at, nothing, is_found, last_at, opener, sharer, short_one, labelled}
 
 -- a refusal for what is found
 abbrev pub when_found : Found → (ℕ → Refusal) → Verdict
-when_found (at row) r = Refused (r row)
-when_found nothing r = Good
+when_found (at row) r = Err (r row)
+when_found nothing r = Ok tt
 
 module _ (it : ℕ → Coded) where
   -- "label minus jump start"
@@ -35,13 +31,13 @@ module _ (it : ℕ → Coded) where
   loop_offset e start = pos (last_at it e) -ℤ pos (address it start)
 
   -- the word of the loop start in row i, whose loop ends at e
-  abbrev pub loop_row : ℕ → ℕ → Coded → Form
-  loop_row e i x = of_loop (λ c m. loop_form c m (loop_offset e i)) form.Leaf x
+  abbrev pub loop_row : ℕ → ℕ → Coded → Result Form Refusal
+  loop_row e i x = of_loop (λ c m. loop_form c m (loop_offset e i)) (Ok form.Leaf) x
 
   -- 12, 9: the jump of row i, once its label is looked for
   abbrev pub reach : Condition → ℕ → ℕ → ℕ → Found → Verdict
   reach c i a b (at label) = form_verdict (jump_form c (jump_offset label i) false)
-  reach c i a b nothing = Refused (UndefinedLabel a b)
+  reach c i a b nothing = Err (UndefinedLabel a b)
 
 module _ (k : Kernel) where
   open k use {it, n}
@@ -49,32 +45,32 @@ module _ (k : Kernel) where
   -- "In a row: 2, 4 .., compute construction .., then 27 or 28, then its own refusals as in the Rust, then room."
   abbrev pub faults : Rooms → ℕ → Coded → List Verdict
   -- 2, 4, 17, 18, 19
-  faults r i (coded.Refused why) = Refused why ∷ []
+  faults r i (Err why) = Err why ∷ []
   -- 27, the encoding's, 29
-  faults r i (Instruction c) =
+  faults r i (Ok (Instruction c)) =
       when (is_branch c.kind && ltb 0 (nest it i)) BranchInLoop
       ∷ form_verdict c.form
       ∷ when (ltb r.parcels (place it i + size_of c.form)) (NoRoomForParcels r.parcels)
       ∷ []
   -- 28, 11, 30
-  faults r i (Label a b) =
+  faults r i (Ok (Label a b)) =
       when (ltb 0 (nest it i)) (LabelInLoop a b)
       ∷ when (is_found (labelled k a b i)) (DuplicateLabel a b)
       ∷ when (ltb r.labels (total is_label it i + 1)) (NoRoomForLabels r.labels)
       ∷ []
   -- 27, 31, 29
-  faults r i (Jump c a b) =
+  faults r i (Ok (Jump c a b)) =
       when (ltb 0 (nest it i)) BranchInLoop
       ∷ when (ltb r.jumps (total is_jump it i + 1)) (NoRoomForJumps r.jumps)
       ∷ when (ltb r.parcels (place it i + 3)) (NoRoomForParcels r.parcels)
       ∷ []
   -- 32, 29
-  faults r i (LoopBegin c m) =
+  faults r i (Ok (LoopBegin c m)) =
       when (ltb r.loops (nest it i + 1)) (NoRoomForLoops r.loops)
       ∷ when (ltb r.parcels (place it i + 3)) (NoRoomForParcels r.parcels)
       ∷ []
   -- 24, 22, 25, 26, 21 and 20
-  faults r i LoopEnd =
+  faults r i (Ok LoopEnd) =
       when (eqb (nest it i) 0) UnmatchedLoopEnd
       ∷ when (eqb (entries it i) (entries it (opener it i) + 1)) EmptyLoop
       ∷ when_found (sharer it i) (λ k. SharedLoopEnd)
@@ -84,7 +80,7 @@ module _ (k : Kernel) where
 
   -- the jump of row i, once every row is taken
   abbrev pub reaches : ℕ → Coded → Verdict
-  reaches i x = of_jump (λ c a b. reach it c i a b (labelled k a b n)) Good x
+  reaches i x = of_jump (λ c a b. reach it c i a b (labelled k a b n)) (Ok tt) x
 
   abbrev pub reach_at : ℕ → Verdict
   reach_at i = reaches i (it i)

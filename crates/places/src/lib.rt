@@ -1,10 +1,11 @@
 // What a build answers and leaves, said of items and their places: definitions; and the code they share: the records of open loops, the rooms of the lent buffers.
 #![tactic(auto)]
 
-ghost use Rattle.std.specs.Prelude.{◌≡◌, cond, eqb, min};
-ghost use Rattle.places.specs.Items.{rooms_of, traits, about};
+ghost use Rattle.std.specs.Prelude.{◌≡◌};
+ghost use Rattle.places.specs.Items.{rooms_of, about};
 
 use coded::Coded;
+use items::Item;
 
 // The numbers of a label entry (start, length, address) and of a waiting jump (place, row).
 pub const LABEL_WIDTH: usize = 3;
@@ -21,7 +22,7 @@ const MOST_LOOPS: usize = 64;
 // The instructions at the end of a loop's body that take three parcels.
 pub const LOOP_TAIL: usize = 11;
 
-// The record of an open loop: the place of its start, its first body entry, its count and its mode as numbers.
+// The record of an open loop: the place of its start, its first body entry, its count and its mode as numbers, since C lends it.
 #[repr(C)]
 #[derive(Clone, Copy)]
 pub struct OpenLoop {
@@ -48,29 +49,22 @@ pub struct Rooms {
     pub loops: usize,
 }
 
-// The smaller of two numbers.
-fn smaller(a: usize, b: usize) -> usize
-    ensures { result ≡ min a b }
-{
-    if a < b { a } else { b }
-}
-
 impl Rooms {
     // The rooms of buffers of so many numbers and loop records, up to the limits.
     pub fn of(parcels: usize, labels: usize, jumps: usize, loops: usize) -> Rooms
         ensures { result ≡ rooms_of parcels labels jumps loops }
     {
         Rooms {
-            parcels: smaller(parcels, MOST_PARCELS),
-            labels: smaller(labels / LABEL_WIDTH, MOST_ENTRIES),
-            jumps: smaller(jumps / JUMP_WIDTH, MOST_ENTRIES),
-            loops: smaller(loops, MOST_LOOPS),
+            parcels: parcels.min(MOST_PARCELS),
+            labels: (labels / LABEL_WIDTH).min(MOST_ENTRIES),
+            jumps: (jumps / JUMP_WIDTH).min(MOST_ENTRIES),
+            loops: loops.min(MOST_LOOPS),
         }
     }
 }
 
 // What an item counts for: its parcels; 1 if it is an instruction entry, a label, a waiting jump, an instruction that does not
-// take three parcels, a loop start, a loop end; its name's start and length.
+// take three parcels, a loop start, a loop end; its name's start and length. The ones are numbers, no `bool`s, since they are added up.
 #[derive(Clone, Copy)]
 pub struct Traits {
     pub size: usize,
@@ -84,58 +78,56 @@ pub struct Traits {
     pub len: u32,
 }
 
-// These numbers in their order.
-fn count_for(
-    size: usize,
-    entry: usize,
-    label: usize,
-    jump: usize,
-    short: usize,
-    opens: usize,
-    closes: usize,
-    start: u32,
-    len: u32,
-) -> Traits
-    ensures { result ≡ traits size entry label jump short opens closes start len }
-{
-    Traits {
-        size,
-        entry,
-        label,
-        jump,
-        short,
-        opens,
-        closes,
-        start,
-        len,
-    }
-}
+// An item that counts for nothing.
+const NOTHING: Traits = Traits {
+    size: 0,
+    entry: 0,
+    label: 0,
+    jump: 0,
+    short: 0,
+    opens: 0,
+    closes: 0,
+    start: 0,
+    len: 0,
+};
 
-// Whether an instruction of so many parcels is short: 1 or 0.
-fn short(size: usize) -> usize
-    ensures { result ≡ cond (eqb size 3) 0 1 }
-{
-    if size == 3 { 0 } else { 1 }
-}
+// An instruction of three parcels.
+const FULL: Traits = Traits {
+    size: 3,
+    entry: 1,
+    ..NOTHING
+};
 
 // What an item counts for.
 pub fn about(item: Coded) -> Traits
     ensures { result ≡ about item }
 {
     match item {
-        Coded::Instruction(coding) => {
-            let form = coding.form;
-            let size = encode::form_size(form);
-            count_for(size, 1, 0, 0, short(size), 0, 0, 0, 0)
+        Ok(Item::Instruction(coding)) => {
+            let size = encode::form_size(coding.form);
+            Traits {
+                size,
+                short: usize::from(size != 3),
+                ..FULL
+            }
         }
-        Coded::Label { start, length } => count_for(0, 0, 1, 0, 0, 0, 0, start, length),
-        Coded::Jump {
-            condition: _,
+        Ok(Item::Label { start, length }) => Traits {
+            label: 1,
             start,
-            length,
-        } => count_for(3, 1, 0, 1, 0, 0, 0, start, length),
-        Coded::LoopBegin { .. } => count_for(3, 1, 0, 0, 0, 1, 0, 0, 0),
-        Coded::LoopEnd => count_for(0, 0, 0, 0, 0, 0, 1, 0, 0),
-        Coded::Refused(_) => count_for(0, 0, 0, 0, 0, 0, 0, 0, 0),
+            len: length,
+            ..NOTHING
+        },
+        Ok(Item::Jump { start, length, .. }) => Traits {
+            jump: 1,
+            start,
+            len: length,
+            ..FULL
+        },
+        Ok(Item::LoopBegin { .. }) => Traits { opens: 1, ..FULL },
+        Ok(Item::LoopEnd) => Traits {
+            closes: 1,
+            ..NOTHING
+        },
+        Err(_) => NOTHING,
     }
 }

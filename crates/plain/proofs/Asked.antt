@@ -7,9 +7,8 @@ use lib.Dec.{ltb}
 use borrow.Author.Tests.{ltb-false}
 use Rattle.refusals.specs.declared.Refusal.{Refusal}
 use Rattle.refusals.specs.declared.Refusal.TheVariants.{UnclosedLoop}
-use Rattle.refusals.specs.declared.Verdict.{Verdict}
-use Rattle.refusals.specs.declared.Verdict.TheVariants.{Good, Refused}
-use Rattle.refusals.specs.declared.Judged.{Judged}
+use Rattle.std.specs.Prelude.{Ok, Err}
+use Rattle.refusals.specs.Answers.{Verdict, Judged}
 use Rattle.refusals.specs.Order.{when, first_of, first_in}
 use Rattle.refusals.proofs.Order.{last_one, first_good, AllPass, either, when-good, first-all, all-passing, stop-passing, foremost-here, foremost-on}
 use Rattle.places.specs.declared.Rooms.{Rooms}
@@ -41,25 +40,25 @@ module _ (k : Kernel) (r : Rooms) where
   late = open_late ∷ jumped ∷ []
 
   -- a refusal of the rows, or of a loop left open, is the list's, with its row
-  pub early : {why : Refusal} → (rows_judged k r).verdict ≡ Refused why → judgement k r ≡ rows_judged k r
+  pub early : {why : Refusal} → (rows_judged k r).verdict ≡ Err why → judgement k r ≡ rows_judged k r
   early {why} e = go (first_of (verdict_at k r) n) refl
     where
       go : (v : Verdict) → first_of (verdict_at k r) n ≡ v → judgement k r ≡ rows_judged k r
-      go (Refused w) q = foremost-here (first_in (verdict_at k r) n) late q ∙ sym (foremost-here (first_in (verdict_at k r) n) (open_late ∷ []) q)
-      go Good q =
+      go (Err w) q = foremost-here (first_in (verdict_at k r) n) late q ∙ sym (foremost-here (first_in (verdict_at k r) n) (open_late ∷ []) q)
+      go (Ok _) q =
           let f = foremost-on (first_in (verdict_at k r) n) (open_late ∷ []) q in
-          let l : open_late.verdict ≡ Refused why = sym (last_one open_late.verdict) ∙ sym (ap (λ (j : Judged). j.verdict) f) ∙ e in
+          let l : open_late.verdict ≡ Err why = sym (last_one open_late.verdict) ∙ sym (ap (λ (j : Judged). j.verdict) f) ∙ e in
           foremost-on (first_in (verdict_at k r) n) late q ∙ foremost-here open_late (jumped ∷ []) l ∙ sym (f ∙ foremost-here open_late [] l)
 
   -- no row is refused, and every loop is closed
   pub record AllGood : Type 0 where
-    pub rows : first_of (verdict_at k r) n ≡ Good
-    pub late : when (ltb 0 (nest it n)) UnclosedLoop ≡ Good
+    pub rows : first_of (verdict_at k r) n ≡ Ok tt
+    pub late : when (ltb 0 (nest it n)) UnclosedLoop ≡ Ok tt
     pub passes : AllPass (verdict_at k r) n
     pub closed : nest it n ≡ 0
     pub whole : taken k r ≡ n
 
-  pub all-good : (rows_judged k r).verdict ≡ Good → AllGood
+  pub all-good : (rows_judged k r).verdict ≡ Ok tt → AllGood
   all-good e =
       let g = first_good (first_of (verdict_at k r) n ∷ when (ltb 0 (nest it n)) UnclosedLoop ∷ []) e in
       let p = first-all (verdict_at k r) n g.0 in

@@ -4,6 +4,5 @@ pub mod Writing
 pub mod Written
 pub mod Walking
 pub mod Finishing
-pub mod Values
 pub mod Once
 pub mod Whole

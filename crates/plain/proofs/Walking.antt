@@ -10,14 +10,13 @@ use lib.Dec.{ltb}
 use lib.Seq.{sets, length-sets}
 use Rattle.refusals.specs.declared.Refusal.{Refusal}
 use Rattle.refusals.specs.declared.Refusal.TheVariants.{DuplicateLabel, LabelInLoop, NoRoomForLabels}
-use Rattle.refusals.specs.declared.Judged.{Judged}
-use Rattle.refusals.specs.declared.Verdict.TheVariants.{Good, Refused}
-use Rattle.refusals.specs.Order.{when, first, first_in}
+use Rattle.std.specs.Prelude.{Ok, Err}
+use Rattle.refusals.specs.Answers.{Judged}
+use Rattle.coded.specs.Coded.{Coded}
+use Rattle.refusals.specs.Order.{when, first, first_in, row_named}
 use Rattle.refusals.proofs.Order.{last_one, AllPass, StopsAt, below_suc, all_first, all-passing, stop-first, stop-passing, foremost-here, foremost-on}
 use Rattle.rows.specs.Rows.{most_rows}
-use Rattle.coded.specs.declared.Coded.{Coded}
-use Rattle.coded.specs.declared.Coded.TheVariants as coded
-use Rattle.coded.specs.declared.Coded.TheVariants.{Instruction, Label, Jump, LoopBegin, LoopEnd}
+use Rattle.items.specs.declared.Item.TheVariants.{Instruction, Label, Jump, LoopBegin, LoopEnd}
 use Rattle.places.specs.declared.Rooms.{Rooms}
 use Rattle.places.specs.Items.{Kernel, kernel_of, row_at, row_count, about, is_label, is_jump, total, nest, label_width, jump_width}
 use Rattle.places.specs.Verdict.{faults, verdict_at, taken}
@@ -46,14 +45,14 @@ module _ (k : Kernel) where
 
   -- a label's search finds what the items say
   check-by : (r : Rooms) (ls : List ℕ) (i : ℕ) → HoldsLabels it i ls → (x : Coded) → check_at k r ls (before_row it i) i x ≡ first (faults k r i x)
-  check-by r ls i held (Instruction c) = refl
-  check-by r ls i held (Label a b) =
+  check-by r ls i held (Ok (Instruction c)) = refl
+  check-by r ls i held (Ok (Label a b)) =
       ap (λ (t : Bool). first (when (ltb 0 (nest it i)) (LabelInLoop a b) ∷ when t (DuplicateLabel a b) ∷ when (ltb r.labels (total is_label it i + 1)) (NoRoomForLabels r.labels) ∷ []))
       (lookup-there k i ls held a b)
-  check-by r ls i held (Jump c a b) = refl
-  check-by r ls i held (LoopBegin c m) = refl
-  check-by r ls i held LoopEnd = refl
-  check-by r ls i held (coded.Refused why) = sym (last_one (Refused why))
+  check-by r ls i held (Ok (Jump c a b)) = refl
+  check-by r ls i held (Ok (LoopBegin c m)) = refl
+  check-by r ls i held (Ok LoopEnd) = refl
+  check-by r ls i held (Err why) = sym (last_one (Err why))
 
 module _ (k : Kernel) (r : Rooms) (lent : Lent) where
   open k use {names, it, n}
@@ -87,24 +86,23 @@ module _ (k : Kernel) (r : Rooms) (lent : Lent) where
     pub check-is : {x : Coded} → x ≡ it i → check_at k r now.labels b i x ≡ verdict_at k r i
     check-is {x} e = ap₂ (λ (y : Before) (z : Coded). check_at k r now.labels y i z) a.before e ∙ check-by k r now.labels i held (it i)
 
-    more : verdict_at k r i ≡ Good → AllPass (verdict_at k r) (suc i)
-    more g = below_suc (λ (q : ℕ). verdict_at k r q ≡ Good) i a.passes g
+    more : verdict_at k r i ≡ Ok tt → AllPass (verdict_at k r) (suc i)
+    more g = below_suc (λ (q : ℕ). verdict_at k r q ≡ Ok tt) i a.passes g
 
     module _ (h : i < n) {x : Coded} (e : x ≡ it i) where
-      pub along_stop : {why : Refusal} → check_at k r now.labels b i x ≡ Refused why → Walked k r lent (record { before = b; verdict = Refused why; row = i }) now
+      pub along_stop : {why : Refusal} → check_at k r now.labels b i x ≡ Err why → Walked k r lent (record { before = b; outcome = Err (record { why = why; row = i }) }) now
       along_stop {why} c =
           let s : StopsAt (verdict_at k r) n = record { row = i; why = why; before = h; fails = sym (check-is e) ∙ c; earlier = a.passes } in
           let t : taken k r ≡ i = stop-passing (verdict_at k r) n s in
           let j : rows_judged k r ≡ first_in (verdict_at k r) n = foremost-here (first_in (verdict_at k r) n) (unclosed k (nest it n) ∷ []) (stop-first (verdict_at k r) n s) in
           record {
             before = a.before ∙ ap (before_row it) (sym t);
-            verdict = sym (ap (λ (j : Judged). j.verdict) j ∙ stop-first (verdict_at k r) n s);
-            row = sym (ap (λ (j : Judged). j.row) j ∙ t);
+            outcome = sym (ap₂ row_named (ap (λ (j : Judged). j.row) j ∙ t) (ap (λ (j : Judged). j.verdict) j ∙ stop-first (verdict_at k r) n s));
             labels = a.labels ∙ ap (labels_at k lent.labels) (sym t);
             jumps = a.jumps ∙ ap (jumps_at k lent.jumps) (sym t);
           }
 
-      module _ (good : check_at k r now.labels b i x ≡ Good) where
+      module _ (good : check_at k r now.labels b i x ≡ Ok tt) where
         abbrev g : Fits it r (suc i)
         g = fits k r (suc i) (more (sym (check-is e) ∙ good))
 
@@ -162,8 +160,7 @@ module _ (k : Kernel) (r : Rooms) (lent : Lent) where
         let j : late_of k b.depth ≡ rows_judged k r = ap (λ (y : Before). late_of k y.depth) (a.before ∙ ap (before_row it) z) ∙ sym (foremost-on (first_in (verdict_at k r) n) (unclosed k (nest it n) ∷ []) (all_first (verdict_at k r) n p)) in
         record {
           before = a.before ∙ ap (before_row it) (sym t);
-          verdict = ap (λ (j : Judged). j.verdict) j;
-          row = ap (λ (j : Judged). j.row) j;
+          outcome = ap (λ (j : Judged). row_named j.row j.verdict) j;
           labels = a.labels ∙ ap (labels_at k lent.labels) (sym t);
           jumps = a.jumps ∙ ap (jumps_at k lent.jumps) (sym t);
         }

@@ -5,17 +5,14 @@ use mathlib.Core.List.{List, [], ◌∷◌, ◌++◌}
 use Prim.Native.Nat.{ℕ, ◌+◌, ◌*◌, ◌≤◌}
 use native.Mathlib.Omega.{arith}
 use lib.ListN.{length, drop, replicate}
-use Rattle.refusals.specs.declared.Answer.{Answer}
-use Rattle.refusals.specs.declared.Answer.TheVariants as answer
+use Rattle.std.specs.Prelude.{Ok, Err, Result}
+use Rattle.refusals.specs.Answers.{Answer, Verdict, Judged}
 use Rattle.refusals.specs.declared.Refusal.{Refusal}
 use Rattle.refusals.specs.declared.Refusal.TheVariants.{RowSlice}
-use Rattle.refusals.specs.declared.Verdict.{Verdict}
-use Rattle.refusals.specs.declared.Verdict.TheVariants.{Good, Refused}
-use Rattle.refusals.specs.declared.Judged.{Judged}
 use Rattle.refusals.specs.Numbers.{answer_of, answered}
 use Rattle.refusals.specs.Order.{or_else, first_of, passing, if_good, said_of_row, first_in, foremost}
 use Rattle.refusals.specs.Scan.{scan_end, scan_end_lem}
-use Rattle.refusals.proofs.Order.{refused-good, foremost-here, foremost-on}
+use Rattle.refusals.proofs.Order.{foremost-here, foremost-on, named-refused, named-good}
 use Rattle.refusals.proofs.Scans.{scan_low, scan_first}
 use Rattle.rows.specs.Rows.{well_formed}
 use Rattle.rows.proofs.Limit.{rows_few}
@@ -40,6 +37,8 @@ use Rattle.plain.specs.Plain.{labels_at, jumps_at, rows_judged, RoomingOf, Walke
 use Rattle.plain.proofs.Asked.{fit, open_late, jumped, late, early, all-good}
 use Rattle.plain.proofs.Walking.{labels-long, jumps-long}
 use Rattle.plain.proofs.Written.{walked, walked-is, walked-rest}
+use Rattle.refusals.specs.declared.Refused.{Refused}
+use Rattle.plain.proofs.Finishing.{no_refusal}
 
 pub walking_of : {r : Rooms} (lent : Lent) → r ≡ rooms_of_lent lent → RoomingOf r (tables lent.labels lent.jumps)
 walking_of lent e = let g = rooming-of e in omega (arith, g)
@@ -77,7 +76,7 @@ module _ (k : Kernel) (few : k.n ≤ 4194304) {r : Rooms} (lent : Lent) (e : r �
       record {
         used = rw y.before (omega (arith, rooming, f.parcels, f.labels, f.jumps, l, j));
         writable = λ v.
-            let g = all-good k r (sym y.verdict ∙ v) in
+            let g = all-good k r (named-good (rows_judged k r).row (rows_judged k r).verdict (sym y.outcome ∙ v)) in
             let w = g.whole in
             record {
               rooms = r;
@@ -119,11 +118,11 @@ module _ (k : Kernel) (few : k.n ≤ 4194304) {r : Rooms} (lent : Lent) (e : r �
     abbrev after : Lent
     after = lent_of lent'.parcels lent'.labels lent'.jumps ks
 
-    loops_are : ks ≡ (O (said_of_row 0 Good)).lent.loops
+    loops_are : ks ≡ (O (said_of_row 0 (Ok tt))).lent.loops
     loops_are = z ∙ ap (λ (b : Before). wiped zero_loop b.deepest lent.loops) y.before
 
     -- refused, with any parcels that keep the rest
-    refused-is : (why : Refusal) (row : ℕ) (ps : List ℕ) → drop (place it t) ps ≡ drop (place it t) lent.parcels → Wiped why row p.before (lent_of ps ls js []) a lent' → Is (O (said_of_row row (Refused why))) a after
+    refused-is : (why : Refusal) (row : ℕ) (ps : List ℕ) → drop (place it t) ps ≡ drop (place it t) lent.parcels → Wiped (record { why = why; row = row }) p.before (lent_of ps ls js []) a lent' → Is (O (said_of_row row (Err why))) a after
     refused-is why row ps d w =
         let b = y.before in
         record {
@@ -135,7 +134,7 @@ module _ (k : Kernel) (few : k.n ≤ 4194304) {r : Rooms} (lent : Lent) (e : r �
         }
 
     -- ---- the second walk
-    module _ (good : (rows_judged k r).verdict ≡ Good) where
+    module _ (good : (rows_judged k r).verdict ≡ Ok tt) where
       whole : t ≡ n
       whole = (all-good k r good).whole
 
@@ -157,20 +156,20 @@ module _ (k : Kernel) (few : k.n ≤ 4194304) {r : Rooms} (lent : Lent) (e : r �
           ends = scan_end (aims k) (written k) lent.parcels n 0
 
           go : (v : Verdict) → w.judged.verdict ≡ v → Is (O w.judged) a after
-          go Good q =
+          go (Ok _) q =
               let g = w.accepted q in
               let s = scan_end_lem (aims k) (written k) lent.parcels n 0 (sym w.came.outcome ∙ q) in
               let x : w.parcels ≡ W t = w.came.here ∙ ap W (s ∙ (let c : 0 + n ≡ n = omega arith in c) ∙ sym whole) in
               let f : Front w.parcels (gather (λ i. (left k i (it i)).parcels) t) lent.parcels (place it t) = subst (λ (l : List ℕ). Front l (gather (λ i. (left k i (it i)).parcels) t) lent.parcels (place it t)) (sym x) (walked-is k lent.parcels place-fits t (omega (arith, whole))) in
               subst (λ (v : Verdict). Is (O (said_of_row w.judged.row v)) a after) (sym q)
               (record {
-                answer = g.0 ∙ ap (λ (b : Before). answer.Accepted b.place) y.before ∙ ap (λ (i : ℕ). answer.Accepted (place it i)) whole;
+                answer = g.0 ∙ ap (λ (b : Before). Ok b.place) y.before ∙ ap (λ (i : ℕ). Ok (place it i)) whole;
                 parcels = ap (λ (l : Lent). l.parcels) g.1 ∙ put-good f;
                 labels = ap (λ (l : Lent). l.labels) g.1 ∙ put-good L-is;
                 jumps = ap (λ (l : Lent). l.jumps) g.1 ∙ put-good J-is;
                 loops = loops_are;
               })
-          go (Refused why) q =
+          go (Err why) q =
               let l = scan_low (aims k) (written k) lent.parcels n 0 in
               subst (λ (v : Verdict). Is (O (said_of_row w.judged.row v)) a after) (sym q)
               (refused-is why w.judged.row w.parcels
@@ -178,23 +177,23 @@ module _ (k : Kernel) (few : k.n ≤ 4194304) {r : Rooms} (lent : Lent) (e : r �
               (w.refused why q))
 
     finished_is : Concluded k p (lent_of lent.parcels ls js []) a lent' → Is (built k lent) a after
-    finished_is w = subst (λ (r : Rooms). Is (come r (judgement k r)) a after) e (go p.verdict refl)
+    finished_is w = subst (λ (r : Rooms). Is (come r (judgement k r)) a after) e (go p.outcome refl)
       where
         -- a last one: of a good one no row is told
         last : Is (O (first_in (reach_at k) n)) a after → Is (O (foremost (first_in (reach_at k) n ∷ []))) a after
         last i = go' (first_of (reach_at k) n) refl
           where
             go' : (v : Verdict) → first_of (reach_at k) n ≡ v → Is (O (foremost (first_in (reach_at k) n ∷ []))) a after
-            go' (Refused why) q = subst (λ (j : Judged). Is (O j) a after) (sym (foremost-here (jumped k r) [] q)) i
-            go' Good q = subst (λ (v : Verdict). Is (O (said_of_row (if_good v 0 (passing (reach_at k) n)) (or_else v Good))) a after) (sym q) (subst (λ (v : Verdict). Is (O (said_of_row (passing (reach_at k) n) v)) a after) q i)
+            go' (Err why) q = subst (λ (j : Judged). Is (O j) a after) (sym (foremost-here (jumped k r) [] q)) i
+            go' (Ok _) q = subst (λ (v : Verdict). Is (O (said_of_row (if_good v 0 (passing (reach_at k) n)) (or_else v (Ok tt)))) a after) (sym q) (subst (λ (v : Verdict). Is (O (said_of_row (passing (reach_at k) n) v)) a after) q i)
 
-        go : (v : Verdict) → p.verdict ≡ v → Is (O (judgement k r)) a after
-        go (Refused why) q =
-            let s = sym y.verdict ∙ q in
-            let j : said_of_row p.row (Refused why) ≡ judgement k r = ap₂ said_of_row y.row (sym s) ∙ sym (early k r s) in
-            subst (λ (j : Judged). Is (O j) a after) j (refused-is why p.row lent.parcels refl (w.stopped why q))
-        go Good q =
-            let g = sym y.verdict ∙ q in
+        go : (v : Result (Unit {0}) Refused) → p.outcome ≡ v → Is (O (judgement k r)) a after
+        go (Err e) q =
+            let s = named-refused (rows_judged k r).row (rows_judged k r).verdict (sym y.outcome ∙ q) in
+            let j : said_of_row e.row (Err e.why) ≡ judgement k r = ap₂ said_of_row (sym s.1) (sym s.0) ∙ sym (early k r s.0) in
+            subst (λ (j : Judged). Is (O j) a after) j (refused-is e.why e.row lent.parcels refl (w.stopped e q))
+        go (Ok _) q =
+            let g = named-good (rows_judged k r).row (rows_judged k r).verdict (sym y.outcome ∙ q) in
             let h = all-good k r g in
             let s : judgement k r ≡ foremost (first_in (reach_at k) n ∷ []) = foremost-on (first_in (verdict_at k r) n) (late k r) h.rows ∙ foremost-on (open_late k r) (jumped k r ∷ []) h.late in
             subst (λ (j : Judged). Is (O j) a after) (sym s) (last (ended_is g (w.went q)))
@@ -221,7 +220,7 @@ module _ {rows names : List ℕ} {r : Rooms} (lent : Lent) (e : r ≡ rooms_of_l
       go true w = finishes k (rows_few (length rows) w) lent e (x.read w)
       go false w =
           let u = x.unread w in
-          record { used = rw u.before (omega arith); writable = λ v. absurd (refused-good RowSlice (sym u.verdict ∙ v)) }
+          record { used = rw u.before (omega arith); writable = λ v. absurd (no_refusal (sym u.outcome ∙ v)) }
 
   abbrev Come : Answer → Lent → List OpenLoop → Outcome → Type 0
   Come a lent' ks o = (a ≡ o.answer) × (lent'.parcels ≡ o.lent.parcels) × (lent'.labels ≡ o.lent.labels) × (lent'.jumps ≡ o.lent.jumps) × (ks ≡ o.lent.loops)
@@ -236,11 +235,11 @@ module _ {rows names : List ℕ} {r : Rooms} (lent : Lent) (e : r ≡ rooms_of_l
       go : (b : Bool) → formed b → Builds rows names lent (answered a) (lent_of lent'.parcels lent'.labels lent'.jumps ks)
       go true f =
           let i = finished_is k (rows_few (length rows) f) lent e (x.read f) a lent' ks z w in
-          done (subst (λ (b : Bool). Come a lent' ks (cond b (built k lent) (outcome (answer.Refused RowSlice 0) lent))) (sym f) (i.answer, i.parcels, i.labels, i.jumps, i.loops))
+          done (subst (λ (b : Bool). Come a lent' ks (cond b (built k lent) (outcome (Err (record { why = RowSlice; row = 0 })) lent))) (sym f) (i.answer, i.parcels, i.labels, i.jumps, i.loops))
       go false f =
           let u = x.unread f in
-          let s = w.stopped RowSlice u.verdict in
+          let s = w.stopped (record { why = RowSlice; row = 0 }) u.outcome in
           let b = u.before in
           done
-          (subst (λ (b : Bool). Come a lent' ks (cond b (built k lent) (outcome (answer.Refused RowSlice 0) lent))) (sym f)
-          (s.answer ∙ ap (λ (row : ℕ). answer.Refused RowSlice row) u.row, s.parcels ∙ rw b refl, s.labels ∙ rw b u.labels, s.jumps ∙ rw b u.jumps, z ∙ rw b refl))
+          (subst (λ (b : Bool). Come a lent' ks (cond b (built k lent) (outcome (Err (record { why = RowSlice; row = 0 })) lent))) (sym f)
+          (s.answer, s.parcels ∙ rw b refl, s.labels ∙ rw b u.labels, s.jumps ∙ rw b u.jumps, z ∙ rw b refl))

@@ -1,23 +1,18 @@
 -- An instrument of the plain build's proof: what each walk leans on, and what it comes to.
-use Rattle.std.specs.Prelude.{◌≡◌, true, false, cond, List, [], ◌∷◌, ℕ, zero, suc, ◌+◌, ◌-◌, ◌*◌, ◌≤◌, ◌<◌, max, length, eqb, ltb}
+use Rattle.std.specs.Prelude.{◌≡◌, true, false, cond, List, [], ◌∷◌, ℕ, zero, suc, ◌+◌, ◌-◌, ◌*◌, ◌≤◌, ◌<◌, max, length, eqb, ltb, Ok, Err, Some, None, Result, Option}
 use Rattle.std.proofs.lemmas.List.Edits.{sets}
-use Rattle.refusals.specs.declared.Answer.{Answer}
-use Rattle.refusals.specs.declared.Answer.TheVariants as answer
+use Rattle.refusals.specs.Answers.{Answer, Verdict, Judged}
+use Rattle.encode.specs.declared.Form.{Form}
+use Rattle.coded.specs.Coded.{Coded, of_jump}
 use Rattle.refusals.specs.declared.Refusal.{Refusal}
 use Rattle.refusals.specs.declared.Refusal.TheVariants.{RowSlice, UnclosedLoop, UndefinedLabel}
-use Rattle.refusals.specs.declared.Verdict.{Verdict}
-use Rattle.refusals.specs.declared.Verdict.TheVariants.{Good, Refused}
-use Rattle.refusals.specs.Order.{when, first, if_good, said_of_row, first_in, foremost}
-use Rattle.refusals.specs.declared.Judged.{Judged}
+use Rattle.refusals.specs.declared.Refused.{Refused}
+use Rattle.refusals.specs.Order.{when, first, if_good, row_named, said_of_row, first_in, foremost}
 use Rattle.refusals.specs.Scan.{Came}
 use Rattle.items.specs.declared.Condition.{Condition}
-use Rattle.encode.specs.declared.Form.{Form}
 use Rattle.encode.specs.declared.Form.TheVariants as form
 use Rattle.rows.specs.Rows.{most_rows, well_formed}
-use Rattle.coded.specs.declared.Coded.{Coded}
-use Rattle.coded.specs.declared.Coded.TheVariants as coded
-use Rattle.coded.specs.declared.Coded.TheVariants.{Instruction, Label, Jump, LoopBegin, LoopEnd}
-use Rattle.coded.specs.Coded.{of_jump}
+use Rattle.items.specs.declared.Item.TheVariants.{Instruction, Label, Jump, LoopBegin, LoopEnd}
 use Rattle.coded.specs.Fine.{CodedFine}
 use Rattle.places.specs.declared.Rooms.{Rooms}
 use Rattle.places.specs.declared.Traits.{Traits}
@@ -25,8 +20,6 @@ use Rattle.places.specs.Items.{Kernel, kernel_of, row_at, row_count, about, is_l
 use Rattle.places.specs.Looking.{at, opener, closer, deepest}
 use Rattle.places.specs.Verdict.{faults, reach_at, loop_row, verdict_at, taken}
 use Rattle.places.specs.Left.{Lent, lent_of, left}
-use Rattle.tables.specs.declared.Sought.{Sought}
-use Rattle.tables.specs.declared.Sought.TheVariants.{At, Nowhere}
 use Rattle.tables.specs.Tables.{zeroed, lookup, Entries}
 use Rattle.tables.specs.Held.{HoldsLabels}
 use Rattle.settling.specs.Settling.{aim_form, Used}
@@ -62,12 +55,12 @@ pub record PassFine (b : Before) (t : Traits) : Type 0 where
 -- ---- the first walk: what row i is refused for, over the label entries that stand
 module _ (k : Kernel) (r : Rooms) (ls : List ℕ) (b : Before) (i : ℕ) where
   abbrev pub check_at : Coded → Verdict
-  check_at (Instruction c) = instruction_chk r b.place b.depth c
-  check_at (Label start len) = label_chk r b.depth k.names ls b.labels start len
-  check_at (Jump c start len) = jump_chk r b.place b.jumps b.depth
-  check_at (LoopBegin c m) = begin_chk r b.place b.depth
-  check_at LoopEnd = first (faults k r i LoopEnd)
-  check_at (coded.Refused why) = Refused why
+  check_at (Ok (Instruction c)) = instruction_chk r b.place b.depth c
+  check_at (Ok (Label start len)) = label_chk r b.depth k.names ls b.labels start len
+  check_at (Ok (Jump c start len)) = jump_chk r b.place b.jumps b.depth
+  check_at (Ok (LoopBegin c m)) = begin_chk r b.place b.depth
+  check_at (Ok LoopEnd) = first (faults k r i (Ok LoopEnd))
+  check_at (Err why) = Err why
 
 pub record CheckFine (rows names : List ℕ) (r : Rooms) (ls : List ℕ) (b : Before) (i : ℕ) (x : Coded) : Type 0 where
   pub rows_in : Rows rows i
@@ -121,7 +114,7 @@ abbrev pub late_of : Kernel → ℕ → Judged
 late_of k depth = foremost (unclosed k depth ∷ [])
 
 abbrev pub past_of : Kernel → Before → Placed
-past_of k b = record { before = b; verdict = (late_of k b.depth).verdict; row = (late_of k b.depth).row }
+past_of k b = record { before = b; outcome = row_named (late_of k b.depth).row (late_of k b.depth).verdict }
 
 pub record Passed (rows names : List ℕ) (b : Before) : Type 0 where
   pub few : row_count rows ≤ most_rows
@@ -141,15 +134,13 @@ pub record Walking (rows : List ℕ) (r : Rooms) (lent : Lent) : Type 0 where
 
 pub record Walked (k : Kernel) (r : Rooms) (lent : Lent) (p : Placed) (left : Lent) : Type 0 where
   pub before : p.before ≡ before_row k.it (taken k r)
-  pub verdict : p.verdict ≡ (rows_judged k r).verdict
-  pub row : p.row ≡ (rows_judged k r).row
+  pub outcome : p.outcome ≡ row_named (rows_judged k r).row (rows_judged k r).verdict
   pub labels : left.labels ≡ labels_at k lent.labels (taken k r)
   pub jumps : left.jumps ≡ jumps_at k lent.jumps (taken k r)
 
 pub record Unread (lent : Lent) (p : Placed) (left : Lent) : Type 0 where
   pub before : p.before ≡ record { place = 0; labels = 0; jumps = 0; depth = 0; deepest = 0 }
-  pub verdict : p.verdict ≡ Refused RowSlice
-  pub row : p.row ≡ 0
+  pub outcome : p.outcome ≡ Err (record { why = RowSlice; row = 0 })
   pub labels : left.labels ≡ lent.labels
   pub jumps : left.jumps ≡ lent.jumps
 
@@ -163,15 +154,15 @@ tables ls js = lent_of [] ls js []
 
 -- ---- the second walk
 -- the word of a jump at place p to the name at a of length b, once it is looked for
-abbrev pub jump_word : Condition → ℕ → ℕ → ℕ → Sought → Form
-jump_word c p a b (At q) = aim_form c p q
-jump_word c p a b Nowhere = form.Refused (UndefinedLabel a b)
+abbrev pub jump_word : Condition → ℕ → ℕ → ℕ → Option ℕ → Result Form Refusal
+jump_word c p a b (Some q) = aim_form c p q
+jump_word c p a b None = Err (UndefinedLabel a b)
 
-abbrev pub jump_forms : List ℕ → List ℕ → ℕ → ℕ → Coded → Form
-jump_forms ns ls count p x = of_jump (λ c a b. jump_word c p a b (lookup ns ls a b count)) form.Leaf x
+abbrev pub jump_forms : List ℕ → List ℕ → ℕ → ℕ → Coded → Result Form Refusal
+jump_forms ns ls count p x = of_jump (λ c a b. jump_word c p a b (lookup ns ls a b count)) (Ok form.Leaf) x
 
 -- the word of the loop start in row i, once its end is looked for
-pub record StartWord (rows names : List ℕ) (i : ℕ) (f : Form) : Type 0 where
+pub record StartWord (rows names : List ℕ) (i : ℕ) (f : Result Form Refusal) : Type 0 where
   pub end : ℕ
   pub within : end < row_count rows
   pub found : closer (row_at rows names) (row_count rows) i ≡ at end
@@ -184,7 +175,7 @@ aims k i ps = reach_at k i
 pub record Writable (k : Kernel) (ls : List ℕ) (count room : ℕ) : Type 0 where
   pub rooms : Rooms
   pub few : k.n ≤ most_rows
-  pub passed : (q : ℕ) → q < k.n → verdict_at k rooms q ≡ Good
+  pub passed : (q : ℕ) → q < k.n → verdict_at k rooms q ≡ Ok tt
   pub closed : nest k.it k.n ≡ 0
   pub count_is : count ≡ total is_label k.it k.n
   pub held : HoldsLabels k.it k.n ls
@@ -202,25 +193,31 @@ pub record Wrote (k : Kernel) (i : ℕ) (ps : List ℕ) (r : Verdict) (ps' : Lis
   pub answer : r ≡ aims k i ps
   pub parcels : ps' ≡ if_good r (written k i ps) ps
 
+-- all rows in turn: the judgement, and the parcels then
+pub record Ran (k : Kernel) (ps : List ℕ) (r : Result (Unit {0}) Refused) (ps' : List ℕ) : Type 0 where
+  pub judged : Judged
+  pub came : Came (aims k) (written k) ps k.n judged.verdict judged.row ps'
+  pub answer : r ≡ row_named judged.row judged.verdict
+
 -- ---- the end
-pub record Wiped (why : Refusal) (row : ℕ) (b : Before) (lent : Lent) (a : Answer) (lent' : Lent) : Type 0 where
-  pub answer : a ≡ answer.Refused why row
+pub record Wiped (why : Refused) (b : Before) (lent : Lent) (a : Answer) (lent' : Lent) : Type 0 where
+  pub answer : a ≡ Err why
   pub parcels : lent'.parcels ≡ zeroed b.place lent.parcels
   pub labels : lent'.labels ≡ zeroed (label_width * b.labels) lent.labels
   pub jumps : lent'.jumps ≡ zeroed (jump_width * b.jumps) lent.jumps
 
 pub record Concluding (k : Kernel) (p : Placed) (lent : Lent) : Type 0 where
   pub used : Used p.before.place p.before.labels p.before.jumps (length lent.parcels) (length lent.labels) (length lent.jumps)
-  pub writable : p.verdict ≡ Good → Writable k lent.labels p.before.labels (length lent.parcels)
+  pub writable : p.outcome ≡ Ok tt → Writable k lent.labels p.before.labels (length lent.parcels)
 
 -- the second walk's verdict and parcels; accepted, they are left
 pub record Ended (k : Kernel) (b : Before) (lent : Lent) (a : Answer) (lent' : Lent) : Type 0 where
   pub judged : Judged
   pub parcels : List ℕ
   pub came : Came (aims k) (written k) lent.parcels k.n judged.verdict judged.row parcels
-  pub accepted : judged.verdict ≡ Good → (a ≡ answer.Accepted b.place) × (lent' ≡ lent_of parcels lent.labels lent.jumps [])
-  pub refused : (why : Refusal) → judged.verdict ≡ Refused why → Wiped why judged.row b (lent_of parcels lent.labels lent.jumps []) a lent'
+  pub accepted : judged.verdict ≡ Ok tt → (a ≡ Ok b.place) × (lent' ≡ lent_of parcels lent.labels lent.jumps [])
+  pub refused : (why : Refusal) → judged.verdict ≡ Err why → Wiped (record { why = why; row = judged.row }) b (lent_of parcels lent.labels lent.jumps []) a lent'
 
 pub record Concluded (k : Kernel) (p : Placed) (lent : Lent) (a : Answer) (lent' : Lent) : Type 0 where
-  pub stopped : (why : Refusal) → p.verdict ≡ Refused why → Wiped why p.row p.before lent a lent'
-  pub went : p.verdict ≡ Good → Ended k p.before lent a lent'
+  pub stopped : (why : Refused) → p.outcome ≡ Err why → Wiped why p.before lent a lent'
+  pub went : p.outcome ≡ Ok tt → Ended k p.before lent a lent'

@@ -4,8 +4,9 @@ ghost use Rattle.places.specs.Items.{kernel_of};
 ghost use Rattle.plain.specs.Plain.{passed, PassFine, check_at, CheckFine, EnterFine, Entered, RoomingOf, Walking, Walked, WalkedAll, Passed, past_of, tables};
 
 use coded::Coded;
+use items::Item;
 use places::{JUMP_WIDTH, LABEL_WIDTH, Rooms, Traits};
-use refusals::{Refusal, Verdict};
+use refusals::{Refusal, Refused, Verdict};
 use rows::ROW_WIDTH;
 
 // What the rows before a row take: parcels, which is its place; label entries; waiting jumps; loops that are open, and the most that were.
@@ -27,12 +28,11 @@ const START: Before = Before {
     deepest: 0,
 };
 
-// What the first walk comes to: what the rows take that it passed, the verdict on all rows, and the row that this names.
+// What the first walk comes to: what the rows take that it passed, and whether all rows are in order, or why not.
 #[derive(Clone, Copy)]
 pub struct Placed {
     pub before: Before,
-    pub verdict: Verdict,
-    pub row: u32,
+    pub outcome: Result<(), Refused>,
 }
 
 // The first walk: 1 if the slice is no rows, else the rows in turn.
@@ -51,8 +51,7 @@ pub fn place_all(
     }
     Placed {
         before: START,
-        verdict: Verdict::Refused(Refusal::RowSlice),
-        row: 0,
+        outcome: Err(Refusal::RowSlice.at(0)),
     }
 }
 
@@ -62,24 +61,17 @@ fn place(rows: &[u32], names: &[u8], rooms: Rooms, labels: &mut [u32], jumps: &m
     ensures { Walked (kernel_of rows.now names.now) rooms (tables labels.old jumps.old) result (tables labels.new jumps.new) }
 {
     let mut before = START;
-    let mut i = 0;
-    while i < rows.len() / ROW_WIDTH {
+    for i in 0..rows.len() / ROW_WIDTH {
         let row = i as u32;
         let item = coded::coded_at(rows, i, names.len());
-        let verdict = check(rows, names, rooms, labels, before, i, item);
-        match verdict {
-            Verdict::Refused(_) => {
-                return Placed {
-                    before,
-                    verdict,
-                    row,
-                };
-            }
-            Verdict::Good => {}
+        if let Err(why) = check(rows, names, rooms, labels, before, i, item) {
+            return Placed {
+                before,
+                outcome: Err(why.at(row)),
+            };
         }
         enter(item, row, before, labels, jumps);
         before = before.and(places::about(item));
-        i += 1;
     }
     past_rows(rows, names, before)
 }
@@ -90,19 +82,15 @@ fn past_rows(rows: &[u32], names: &[u8], before: Before) -> Placed
     ensures { result ≡ past_of (kernel_of rows.now names.now) before }
 {
     if before.depth == 0 {
-        let verdict = Verdict::Good;
         return Placed {
             before,
-            verdict,
-            row: 0,
+            outcome: Ok(()),
         };
     }
     let row = ends::start_of(rows, names, rows.len() / ROW_WIDTH) as u32;
-    let verdict = Verdict::Refused(Refusal::UnclosedLoop);
     Placed {
         before,
-        verdict,
-        row,
+        outcome: Err(Refusal::UnclosedLoop.at(row)),
     }
 }
 
@@ -121,15 +109,14 @@ fn check(
 {
     let place = before.place;
     let depth = before.depth;
-    match item {
-        Coded::Instruction(coding) => checks::instruction(rooms, place, depth, coding),
-        Coded::Label { start, length } => {
+    match item? {
+        Item::Instruction(coding) => checks::instruction(rooms, place, depth, coding),
+        Item::Label { start, length } => {
             checks::label(rooms, depth, names, labels, before.labels, start, length)
         }
-        Coded::Jump { .. } => checks::jump(rooms, place, before.jumps, depth),
-        Coded::LoopBegin { .. } => checks::loop_begin(rooms, place, depth),
-        Coded::LoopEnd => ends::end_check(rows, names, i, place, depth),
-        Coded::Refused(r) => Verdict::Refused(r),
+        Item::Jump { .. } => checks::jump(rooms, place, before.jumps, depth),
+        Item::LoopBegin { .. } => checks::loop_begin(rooms, place, depth),
+        Item::LoopEnd => ends::end_check(rows, names, i, place, depth),
     }
 }
 
@@ -140,21 +127,11 @@ fn enter(item: Coded, row: u32, before: Before, labels: &mut [u32], jumps: &mut 
 {
     let place = before.place as u32;
     match item {
-        Coded::Label { start, length } => {
-            tables::store(
-                labels,
-                LABEL_WIDTH * before.labels,
-                [start, length, place, 0],
-                LABEL_WIDTH,
-            );
+        Ok(Item::Label { start, length }) => {
+            tables::store(labels, LABEL_WIDTH * before.labels, &[start, length, place]);
         }
-        Coded::Jump { .. } => {
-            tables::store(
-                jumps,
-                JUMP_WIDTH * before.jumps,
-                [place, row, 0, 0],
-                JUMP_WIDTH,
-            );
+        Ok(Item::Jump { .. }) => {
+            tables::store(jumps, JUMP_WIDTH * before.jumps, &[place, row]);
         }
         _ => {}
     }
@@ -172,14 +149,7 @@ impl Before {
             labels: self.labels + item.label,
             jumps: self.jumps + item.jump,
             depth,
-            deepest: greater(self.deepest, depth),
+            deepest: self.deepest.max(depth),
         }
     }
-}
-
-// The greater of two numbers.
-fn greater(a: usize, b: usize) -> usize
-    ensures { result ≡ max a b }
-{
-    if a < b { b } else { a }
 }

@@ -14,7 +14,7 @@ ghost use Rattle.plain.specs.Plain.{Wiped, Concluding, Concluded};
 
 use first::{Before, Placed};
 use places::{OpenLoop, Rooms};
-use refusals::{Answer, Refusal, Verdict};
+use refusals::{Answer, Refused};
 
 // Builds the rows: the very answer of the quick build, and the same left in every lent buffer.
 pub fn build_plain(
@@ -30,8 +30,8 @@ pub fn build_plain(
     let rooms = Rooms::of(parcels.len(), labels.len(), jumps.len(), loops.len());
     // Where is each item, and is it refused?
     let placed = first::place_all(rows, names, rooms, &mut *labels, &mut *jumps);
-    let deep = deepest(placed);
-    tables::loops::wipe(&mut *loops, deep);
+    // So many loop places are zero in every answer.
+    tables::loops::wipe(&mut *loops, placed.before.deepest);
     // What does each item come to?
     finish(
         rows,
@@ -41,14 +41,6 @@ pub fn build_plain(
         &mut *jumps,
         placed,
     )
-}
-
-// The most loops that were open at once in the rows that were passed: so many loop places are zero in every answer.
-fn deepest(placed: Placed) -> usize
-    ensures { result ≡ placed.before.deepest }
-{
-    let before = placed.before;
-    before.deepest
 }
 
 // After the first walk: its refusal, or the second walk and its refusal, or the count.
@@ -64,32 +56,25 @@ fn finish(
     ensures { Concluded (kernel_of rows.now names.now) placed (lent_of parcels.old labels.old jumps.old []) result (lent_of parcels.new labels.new jumps.new []) }
 {
     let before = placed.before;
-    let verdict = placed.verdict;
-    match verdict {
-        Verdict::Refused(r) => {
-            return refused(r, placed.row, before, parcels, labels, jumps);
-        }
-        Verdict::Good => {}
+    if let Err(why) = placed.outcome {
+        return refused(why, before, parcels, labels, jumps);
     }
-    let aims = second::write(rows, names, labels, before.labels, parcels);
-    let verdict = aims.verdict;
-    match verdict {
-        Verdict::Refused(r) => refused(r, aims.row, before, parcels, labels, jumps),
-        Verdict::Good => Answer::Accepted(before.place as u32),
+    match second::write(rows, names, labels, before.labels, parcels) {
+        Ok(()) => Ok(before.place as u32),
+        Err(why) => refused(why, before, parcels, labels, jumps),
     }
 }
 
 // The answer of a refusal, with zeros in what the rows before it took.
 fn refused(
-    why: Refusal,
-    row: u32,
+    why: Refused,
     before: Before,
     parcels: &mut [u16],
     labels: &mut [u32],
     jumps: &mut [u32],
 ) -> Answer
     requires { Used before.place before.labels before.jumps (length parcels.old) (length labels.old) (length jumps.old) }
-    ensures { Wiped why row before (lent_of parcels.old labels.old jumps.old []) result (lent_of parcels.new labels.new jumps.new []) }
+    ensures { Wiped why before (lent_of parcels.old labels.old jumps.old []) result (lent_of parcels.new labels.new jumps.new []) }
 {
     settling::wipes::clear(
         before.place,
@@ -99,5 +84,5 @@ fn refused(
         labels,
         jumps,
     );
-    Answer::Refused(why, row)
+    Err(why)
 }

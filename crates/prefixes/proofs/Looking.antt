@@ -6,7 +6,7 @@ use mathlib.Core.Path.{◌≡◌, refl, sym, ap, ◌∙◌, subst}
 use mathlib.Core.Logic.{◌⊎◌, inl, inr, ⊎_elim}
 use mathlib.Core.Bool.{Bool, true, false, cond}
 use Rattle.refusals.specs.declared.Refusal.{Refusal}
-use Rattle.refusals.specs.declared.Verdict.TheVariants.{Good}
+use Rattle.std.specs.Prelude.{Ok}
 use Rattle.refusals.proofs.Order.{refused-good, below_suc}
 use Rattle.places.specs.Looking.{latest, Found, at, nothing, is_found, newest, earliest}
 use Rattle.places.specs.Verdict.{when_found}
@@ -129,9 +129,9 @@ module _ (t : ℕ → Bool) (n : ℕ) where
 
 -- a refusal for what is found: none is found
 module _ (t : ℕ → Bool) (i : ℕ) (r : ℕ → Refusal) where
-  pub found-good : when_found (newest t i) r ≡ Good → None t i
+  pub found-good : when_found (newest t i) r ≡ Ok tt → None t i
   found-good e =
       ⊎_elim (λ n. n) (λ m. absurd (refused-good _ (sym (ap (λ (f : Found). when_found f r) (newest-is t i m)) ∙ e))) (latest-row t i)
 
-  pub good-found : ((k : ℕ) → k < i → t k ≡ true → ⊥) → when_found (newest t i) r ≡ Good
+  pub good-found : ((k : ℕ) → k < i → t k ≡ true → ⊥) → when_found (newest t i) r ≡ Ok tt
   good-found h = ap (λ (f : Found). when_found f r) (newest-none t i (λ q l. not_so _ (h q l)))

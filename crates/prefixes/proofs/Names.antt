@@ -9,9 +9,9 @@ use lib.Seq.{drop-cons}
 use lib.Dec.{eqb}
 use borrow.Author.Tests.{eqb-true, eq-eqb}
 use Rattle.items.specs.declared.Condition.{Condition}
-use Rattle.coded.specs.declared.Coded.TheVariants.{Instruction, Label, Jump, LoopBegin, LoopEnd}
-use Rattle.coded.specs.declared.Coded.{Coded}
-use Rattle.coded.specs.declared.Coded.TheVariants.{Refused}
+use Rattle.items.specs.declared.Item.TheVariants.{Instruction, Label, Jump, LoopBegin, LoopEnd}
+use Rattle.std.specs.Prelude.{Ok, Err}
+use Rattle.coded.specs.Coded.{Coded}
 use Rattle.rows.specs.Rows.{row_width}
 use Rattle.coded.specs.Fine.{CodedFine}
 use Rattle.coded.proofs.Fine.{coded-fine, label-named, jump-named}
@@ -63,24 +63,24 @@ module _ (names : List ℕ) (a b : ℕ) (h : a + b ≤ length names) where
   pub record Bears (x : Coded) : Type 0 where
     pub start : ℕ
     pub len : ℕ
-    pub label : x ≡ Label start len
+    pub label : x ≡ Ok (Label start len)
     pub name : take len (drop start names) ≡ take b (drop a names)
 
-  pub bears-label : (x : Coded) → ((c d : ℕ) → x ≡ Label c d → c + d ≤ length names) → bears names a b x ≡ true → Bears x
-  bears-label (Instruction v) f e = absurd (true_false e refl)
-  bears-label (Label c d) f e = record { start = c; len = d; label = refl; name = test-name names a b c d h (f c d refl) e }
-  bears-label (Jump q c d) f e = absurd (true_false e refl)
-  bears-label (LoopBegin c m) f e = absurd (true_false e refl)
-  bears-label LoopEnd f e = absurd (true_false e refl)
-  bears-label (Refused r) f e = absurd (true_false e refl)
+  pub bears-label : (x : Coded) → ((c d : ℕ) → x ≡ Ok (Label c d) → c + d ≤ length names) → bears names a b x ≡ true → Bears x
+  bears-label (Ok (Instruction v)) f e = absurd (true_false e refl)
+  bears-label (Ok (Label c d)) f e = record { start = c; len = d; label = refl; name = test-name names a b c d h (f c d refl) e }
+  bears-label (Ok (Jump q c d)) f e = absurd (true_false e refl)
+  bears-label (Ok (LoopBegin c m)) f e = absurd (true_false e refl)
+  bears-label (Ok LoopEnd) f e = absurd (true_false e refl)
+  bears-label (Err r) f e = absurd (true_false e refl)
 
-  pub label-bears : (x : Coded) (c d : ℕ) → c + d ≤ length names → x ≡ Label c d → take d (drop c names) ≡ take b (drop a names) → bears names a b x ≡ true
+  pub label-bears : (x : Coded) (c d : ℕ) → c + d ≤ length names → x ≡ Ok (Label c d) → take d (drop c names) ≡ take b (drop a names) → bears names a b x ≡ true
   label-bears x c d g e s = rw e (name-test names a b c d h g s)
 
 -- ---- the names of a kernel's labels and jumps lie in its names
 pub record Named (k : Kernel) : Type 0 where
-  pub label : (i a b : ℕ) → k.it i ≡ Label a b → a + b ≤ length k.names
-  pub jump : (i : ℕ) (c : Condition) (a b : ℕ) → k.it i ≡ Jump c a b → a + b ≤ length k.names
+  pub label : (i a b : ℕ) → k.it i ≡ Ok (Label a b) → a + b ≤ length k.names
+  pub jump : (i : ℕ) (c : Condition) (a b : ℕ) → k.it i ≡ Ok (Jump c a b) → a + b ≤ length k.names
 
 pub row_fine : (rows names : List ℕ) (i : ℕ) → CodedFine (length names) (row_at rows names i)
 row_fine rows names i = coded-fine (take row_width (drop (i * row_width) rows)) (length names)

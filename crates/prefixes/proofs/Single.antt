@@ -8,8 +8,9 @@ use lib.Dec.{eqb}
 use lib.ListN.{get_or}
 use borrow.Author.Tests.{eqb-true}
 use Rattle.refusals.proofs.Order.{AllPass, when-good}
-use Rattle.coded.specs.declared.Coded.{Coded}
-use Rattle.coded.specs.declared.Coded.TheVariants.{Instruction, Label, Jump, LoopBegin, LoopEnd, Refused}
+use Rattle.std.specs.Prelude.{Ok, Err}
+use Rattle.coded.specs.Coded.{Coded}
+use Rattle.items.specs.declared.Item.TheVariants.{Instruction, Label, Jump, LoopBegin, LoopEnd}
 use Rattle.places.specs.declared.Rooms.{Rooms}
 use Rattle.places.specs.Items.{Kernel}
 use Rattle.places.specs.Looking.{same_from, bears}
@@ -33,11 +34,11 @@ module _ (k : Kernel) (r : Rooms) (n : ℕ) (all : AllPass (verdict_at k r) n) w
   open k use {names, it}
 
   -- the label of row q bears the name at a of length b
-  label-once : (a b q c d : ℕ) → q < n → it q ≡ Label c d → (eqb d b && same_from names b c a) ≡ true → None (λ i. bears names a b (it i)) q
+  label-once : (a b q c d : ℕ) → q < n → it q ≡ Ok (Label c d) → (eqb d b && same_from names b c a) ≡ true → None (λ i. bears names a b (it i)) q
   label-once a b q c d h e t =
       let s = and_both _ _ t in
       let l : d ≡ b = eqb-true d b s.0 in
-      let z = not_found _ (when-good _ _ (passed k r q (all q h) (Label c d) e).1.0) in
+      let z = not_found _ (when-good _ _ (passed k r q (all q h) (Ok (Label c d)) e).1.0) in
       ⊎_elim
       (λ x i u. sym (alike (it i) l s.1) ∙ x.0 i u)
       (λ x. absurd (at-nothing x.0 (sym x.2 ∙ z)))
@@ -50,9 +51,9 @@ module _ (k : Kernel) (r : Rooms) (n : ℕ) (all : AllPass (verdict_at k r) n) w
   single a b q h e = go (it q) refl
     where
       go : (x : Coded) → it q ≡ x → None (λ i. bears names a b (it i)) q
-      go (Instruction v) f = absurd (true_false e (ap (bears names a b) f))
-      go (Label c d) f = label-once a b q c d h f (sym (ap (bears names a b) f) ∙ e)
-      go (Jump j c d) f = absurd (true_false e (ap (bears names a b) f))
-      go (LoopBegin c m) f = absurd (true_false e (ap (bears names a b) f))
-      go LoopEnd f = absurd (true_false e (ap (bears names a b) f))
-      go (Refused why) f = absurd (true_false e (ap (bears names a b) f))
+      go (Ok (Instruction v)) f = absurd (true_false e (ap (bears names a b) f))
+      go (Ok (Label c d)) f = label-once a b q c d h f (sym (ap (bears names a b) f) ∙ e)
+      go (Ok (Jump j c d)) f = absurd (true_false e (ap (bears names a b) f))
+      go (Ok (LoopBegin c m)) f = absurd (true_false e (ap (bears names a b) f))
+      go (Ok LoopEnd) f = absurd (true_false e (ap (bears names a b) f))
+      go (Err why) f = absurd (true_false e (ap (bears names a b) f))

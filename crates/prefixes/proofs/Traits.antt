@@ -7,46 +7,46 @@ use lib.Dec.{eqb}
 use borrow.Author.Tests.{eqb-true, eqb-false}
 use Rattle.items.specs.declared.LoopCount.{LoopCount}
 use Rattle.items.specs.declared.LoopMode.{LoopMode}
-use Rattle.coded.specs.declared.Coded.TheVariants.{Instruction, Label, Jump, LoopBegin, LoopEnd}
-use Rattle.coded.specs.declared.Coded.{Coded}
-use Rattle.coded.specs.declared.Coded.TheVariants.{Refused}
+use Rattle.items.specs.declared.Item.TheVariants.{Instruction, Label, Jump, LoopBegin, LoopEnd}
+use Rattle.std.specs.Prelude.{Ok, Err}
+use Rattle.coded.specs.Coded.{Coded}
 use Rattle.places.specs.Items.{size_of, about, size, is_entry}
 
 pub entry-bit : (x : Coded) → is_entry x ≤ 1
-entry-bit (Instruction v) = omega arith
-entry-bit (Label a b) = omega arith
-entry-bit (Jump c a b) = omega arith
-entry-bit (LoopBegin c m) = omega arith
-entry-bit LoopEnd = omega arith
-entry-bit (Refused r) = omega arith
+entry-bit (Ok (Instruction v)) = omega arith
+entry-bit (Ok (Label a b)) = omega arith
+entry-bit (Ok (Jump c a b)) = omega arith
+entry-bit (Ok (LoopBegin c m)) = omega arith
+entry-bit (Ok LoopEnd) = omega arith
+entry-bit (Err r) = omega arith
 
 -- no item is a loop start and a loop end
 pub one_way : (x : Coded) → (about x).opens + (about x).closes ≤ 1
-one_way (Instruction v) = omega arith
-one_way (Label a b) = omega arith
-one_way (Jump c a b) = omega arith
-one_way (LoopBegin c m) = omega arith
-one_way LoopEnd = omega arith
-one_way (Refused r) = omega arith
+one_way (Ok (Instruction v)) = omega arith
+one_way (Ok (Label a b)) = omega arith
+one_way (Ok (Jump c a b)) = omega arith
+one_way (Ok (LoopBegin c m)) = omega arith
+one_way (Ok LoopEnd) = omega arith
+one_way (Err r) = omega arith
 
-pub opens_begin : (x : Coded) → (about x).opens ≡ 1 → (c : LoopCount) × (m : LoopMode) × (x ≡ LoopBegin c m)
-opens_begin (Instruction v) e = absurd (omega arith)
-opens_begin (Label a b) e = absurd (omega arith)
-opens_begin (Jump c a b) e = absurd (omega arith)
-opens_begin (LoopBegin c m) e = (c, m, refl)
-opens_begin LoopEnd e = absurd (omega arith)
-opens_begin (Refused r) e = absurd (omega arith)
+pub opens_begin : (x : Coded) → (about x).opens ≡ 1 → (c : LoopCount) × (m : LoopMode) × (x ≡ Ok (LoopBegin c m))
+opens_begin (Ok (Instruction v)) e = absurd (omega arith)
+opens_begin (Ok (Label a b)) e = absurd (omega arith)
+opens_begin (Ok (Jump c a b)) e = absurd (omega arith)
+opens_begin (Ok (LoopBegin c m)) e = (c, m, refl)
+opens_begin (Ok LoopEnd) e = absurd (omega arith)
+opens_begin (Err r) e = absurd (omega arith)
 
 pub opens-entry : (x : Coded) → (about x).opens ≡ 1 → is_entry x ≡ 1
 opens-entry x e = let b = opens_begin x e in rw b.2
 
-pub closes-end : (x : Coded) → (about x).closes ≡ 1 → x ≡ LoopEnd
-closes-end (Instruction v) e = absurd (omega arith)
-closes-end (Label a b) e = absurd (omega arith)
-closes-end (Jump c a b) e = absurd (omega arith)
-closes-end (LoopBegin c m) e = absurd (omega arith)
-closes-end LoopEnd e = refl
-closes-end (Refused r) e = absurd (omega arith)
+pub closes-end : (x : Coded) → (about x).closes ≡ 1 → x ≡ Ok LoopEnd
+closes-end (Ok (Instruction v)) e = absurd (omega arith)
+closes-end (Ok (Label a b)) e = absurd (omega arith)
+closes-end (Ok (Jump c a b)) e = absurd (omega arith)
+closes-end (Ok (LoopBegin c m)) e = absurd (omega arith)
+closes-end (Ok LoopEnd) e = refl
+closes-end (Err r) e = absurd (omega arith)
 
 -- ---- a short instruction does not take three parcels, and each other entry does
 not_three : (n : ℕ) (t : Bool) → eqb n 3 ≡ t → ◌≡◌ {A = ℕ} (cond t 0 1) 1 → n ≡ 3 → ⊥
@@ -58,17 +58,17 @@ three n true e f = eqb-true n 3 e
 three n false e f = absurd (f refl)
 
 pub short-entry : (x : Coded) → (about x).short ≡ 1 → (is_entry x ≡ 1) × (size x ≡ 3 → ⊥)
-short-entry (Instruction v) e = (refl, not_three (size_of v.form) (eqb (size_of v.form) 3) refl e)
-short-entry (Label a b) e = absurd (omega arith)
-short-entry (Jump c a b) e = absurd (omega arith)
-short-entry (LoopBegin c m) e = absurd (omega arith)
-short-entry LoopEnd e = absurd (omega arith)
-short-entry (Refused r) e = absurd (omega arith)
+short-entry (Ok (Instruction v)) e = (refl, not_three (size_of v.form) (eqb (size_of v.form) 3) refl e)
+short-entry (Ok (Label a b)) e = absurd (omega arith)
+short-entry (Ok (Jump c a b)) e = absurd (omega arith)
+short-entry (Ok (LoopBegin c m)) e = absurd (omega arith)
+short-entry (Ok LoopEnd) e = absurd (omega arith)
+short-entry (Err r) e = absurd (omega arith)
 
 pub wide-entry : (x : Coded) → is_entry x ≡ 1 → ((about x).short ≡ 1 → ⊥) → size x ≡ 3
-wide-entry (Instruction v) e f = three (size_of v.form) (eqb (size_of v.form) 3) refl f
-wide-entry (Label a b) e f = absurd (omega arith)
-wide-entry (Jump c a b) e f = refl
-wide-entry (LoopBegin c m) e f = refl
-wide-entry LoopEnd e f = absurd (omega arith)
-wide-entry (Refused r) e f = absurd (omega arith)
+wide-entry (Ok (Instruction v)) e f = three (size_of v.form) (eqb (size_of v.form) 3) refl f
+wide-entry (Ok (Label a b)) e f = absurd (omega arith)
+wide-entry (Ok (Jump c a b)) e f = refl
+wide-entry (Ok (LoopBegin c m)) e f = refl
+wide-entry (Ok LoopEnd) e f = absurd (omega arith)
+wide-entry (Err r) e f = absurd (omega arith)

@@ -3,13 +3,13 @@
 
 mod printed;
 
+use hex_lines::Reader;
 use std::io;
 
 fn main(rt: HostRuntime) -> io::Result<()> {
-    let mut parcels = [0u16; 3072];
     let mut out = [0u8; 1161240];
     let mut buf = [0u8; 65536];
-    let reader = hex_lines::input::read_all(&rt, &mut buf, &mut parcels);
-    let n = printed::whole(reader, &mut parcels, &mut out);
+    let mut reader: Reader = reader::input::read_all(&rt, &mut buf);
+    let n = printed::whole(&mut reader, &mut out);
     rt.write_all(&out[..n])
 }

@@ -5,8 +5,10 @@ use mathlib.Core.List.{List}
 use Prim.Native.Nat.{ℕ, ◌<◌, ◌≤◌}
 use lib.Dec.{leb}
 use borrow.Author.Tests.{le-leb, lt-leb}
-use Rattle.reader.specs.declared.Reader.{Reader}
+use Rattle.reader.specs.declared.Place.{Place}
+use Rattle.reader.specs.declared.Unread.{Unread}
 use Rattle.reader.specs.Lines.{is_digit}
+use Rattle.std.specs.Prelude.{Result}
 use Rattle.reader.specs.Steps.{With, with, mem, mem_in_rows, in_names}
 
 pub yes : {A : Type 0} (t : Bool) {r a : A} (b : A) → t ≡ true → r ≡ a → r ≡ cond t a b
@@ -34,9 +36,9 @@ digit-high b h = rw (lt-leb b 57 h, and_false (leb 48 b))
     and_false true = refl
     and_false false = refl
 
--- a buffer and the reader that wrote it, beside the other buffer
-pub in_rows : (names : List ℕ) {s : Reader} {rows : List ℕ} {w : With} → with s rows ≡ w → mem s rows names ≡ mem_in_rows w names
+-- a buffer and the place that its writer came to, beside the other buffer
+pub in_rows : (names : List ℕ) {s : Result Place Unread} {rows : List ℕ} {w : With} → with s rows ≡ w → mem s rows names ≡ mem_in_rows w names
 in_rows names e = ap (λ (w : With). mem_in_rows w names) e
 
-pub in_names_lem : (rows : List ℕ) {s : Reader} {names : List ℕ} {w : With} → with s names ≡ w → mem s rows names ≡ in_names w rows
+pub in_names_lem : (rows : List ℕ) {s : Result Place Unread} {names : List ℕ} {w : With} → with s names ≡ w → mem s rows names ≡ in_names w rows
 in_names_lem rows e = ap (λ (w : With). in_names w rows) e

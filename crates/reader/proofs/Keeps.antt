@@ -1,84 +1,88 @@
 -- A byte keeps a reader fine.
-use mathlib.Core.Path.{◌≡◌, refl}
 use mathlib.Core.List.{List, [], ◌∷◌}
-use mathlib.Core.Logic.{◌⊎◌, inl, inr}
-use Prim.Native.Nat.{ℕ, ◌+◌, ◌-◌, ◌*◌, ◌≤◌, ◌<◌, ◌^◌}
+use Prim.Native.Nat.{ℕ, ◌+◌, ◌≤◌, ◌<◌}
 use native.Mathlib.Omega.{arith}
 use lib.Dec.{ltb, leb, eqb}
 use borrow.Author.Tests.{ltb-true, leb-false}
+use Rattle.std.specs.Prelude.{Option, Some, None, is_some, Result, Ok, Err}
+use Rattle.reader.specs.declared.Place.{Place}
 use Rattle.reader.specs.declared.Reader.{Reader}
-use Rattle.reader.specs.Lines.{is_digit}
-use Rattle.reader.specs.Steps.{Fine, line_start, failed, digit_of, With, letter_of, name_at, name_of, tab_of, end_of, Mem, turn_of, run, ended}
+use Rattle.reader.specs.declared.Unread.{Unread}
+use Rattle.reader.specs.Steps.{Early, Fine, FineIn, line_start, failed, is_begun, in_name, with_digit, digit_in, digit_of, With, letter_of, name_of_kind, name_after, tab_in, end_in, end_of, turn_at, turn_in, turn_of, run, ended_in, ended}
 use Rattle.reader.proofs.Conds.{cond_keeps}
-use Rattle.reader.proofs.Readable.{name_range, name-later}
+use Rattle.reader.proofs.Readable.{kind-early}
 
 -- ---- fine
-fail_fine : (s : Reader) → Fine s → Fine (failed s)
-unfolding failed
-fail_fine s f = record { items = f.items; field = f.field; name = f.name; later = f.later; names = f.names }
+fail_fine : (s : Place) → Fine s → FineIn (failed s)
+fail_fine s f = omega (arith, f.items)
 
-digit-fine : (s : Reader) (b : ℕ) → Fine s → Fine (digit_of s b)
-unfolding digit_of
-digit-fine s b f =
-    cond_keeps Fine (is_digit b) _ _
-    (λ _. cond_keeps Fine (ltb (s.value * 10 + (b - 48)) (2 ^ 32)) _ _ (λ _. record { items = f.items; field = f.field; name = f.name; later = f.later; names = f.names }) (λ _. fail_fine s f))
-    (λ _. fail_fine s f)
+digit-fine : (s : Place) (b : ℕ) → Fine s → FineIn (digit_of s b)
+digit-fine s b f = by (with_digit s.value b)
+  where
+    by : (v : Option ℕ) → FineIn (digit_in s v)
+    by None = fail_fine s f
+    by (Some v) = record { items = f.items; field = f.field; name = f.name; names = f.names }
 
-abbrev FineIn : With → Type 0
-FineIn w = Fine w.reader
+abbrev FineWith : With → Type 0
+FineWith w = FineIn w.place
 
-letter-fine : (s : Reader) (b : ℕ) (l : List ℕ) → Fine s → FineIn (letter_of s b l)
+letter-fine : (s : Place) (b : ℕ) (l : List ℕ) → Fine s → FineWith (letter_of s b l)
 unfolding letter_of
 letter-fine s b l f =
-    cond_keeps FineIn (ltb (s.start + s.bytes) 2048) _ _
-    (λ e. record { items = f.items; field = f.field; name = f.name; later = f.later; names = omega (arith, ltb-true (s.start + s.bytes) 2048 e) })
+    cond_keeps FineWith (ltb (s.start + s.bytes) 2048) _ _
+    (λ e. record { items = f.items; field = f.field; name = f.name; names = omega (arith, ltb-true (s.start + s.bytes) 2048 e) })
     (λ _. fail_fine s f)
 
-name-fine : (s : Reader) → Fine s → ((name_of s ≤ 2) ⊎ (name_of s ≡ 17)) × (0 < name_of s)
-name-fine s f = cond_keeps (λ (n : ℕ). ((n ≤ 2) ⊎ (n ≡ 17)) × (0 < n)) (eqb s.field 0) (name_at s.value) s.name (λ _. (by (name_range s.value), name-later s.value)) (λ _. (f.name, f.later))
-  where
-    by : ((0 < name_at s.value) × (name_at s.value ≤ 2)) ⊎ (name_at s.value ≡ 17) → (name_at s.value ≤ 2) ⊎ (name_at s.value ≡ 17)
-    by (inl k) = inl k.1
-    by (inr e) = inr e
+name-fine : (s : Place) (v : ℕ) → Fine s → Early (name_after s v)
+name-fine s v f = cond_keeps Early (eqb s.field 0) (name_of_kind v) s.name (λ _. kind-early v) (λ _. f.name)
 
-tab_fine : (s : Reader) (l : List ℕ) → Fine s → FineIn (tab_of s l)
-unfolding tab_of
-tab_fine s l f =
-    cond_keeps FineIn s.begun _ _
-    (λ _. cond_keeps FineIn (ltb s.field 16) _ _ (λ e. record { items = f.items; field = omega (arith, ltb-true s.field 16 e); name = (name-fine s f).0; later = (name-fine s f).1; names = f.names }) (λ _. fail_fine s f))
-    (λ _. fail_fine s f)
+tab_fine : (s : Place) (l : List ℕ) (v : Option ℕ) → Fine s → FineWith (tab_in s l v)
+unfolding tab_in
+tab_fine s l None f = fail_fine s f
+tab_fine s l (Some v) f =
+    cond_keeps FineWith (ltb s.field 16) _ _ (λ e. record { items = f.items; field = omega (arith, ltb-true s.field 16 e); name = name-fine s v f; names = f.names }) (λ _. fail_fine s f)
 
 pub start_fine : (i start : ℕ) → i ≤ 512 → start ≤ 2048 → Fine (line_start i start)
-start_fine i start h k = record { items = h; field = omega arith; name = inr refl; later = omega arith; names = omega arith }
+start_fine i start h k = record { items = h; field = omega arith; name = tt; names = omega arith }
 
-end-fine : (s : Reader) (l : List ℕ) → Fine s → s.items < 512 → FineIn (end_of s l)
+end-fine : (s : Place) (l : List ℕ) → Fine s → s.items < 512 → FineWith (end_of s l)
 unfolding end_of
-end-fine s l f h =
-    cond_keeps FineIn (eqb s.field s.name) _ _ (λ _. next)
-    (λ _. cond_keeps FineIn s.begun _ _ (λ _. cond_keeps FineIn (eqb (name_of s) 17) _ _ (λ _. next) (λ _. fail_fine s f)) (λ _. fail_fine s f))
+end-fine s l f h = cond_keeps FineWith (in_name s) _ _ (λ _. next) (λ _. by s.value)
   where
     next : Fine (line_start (s.items + 1) (s.start + s.bytes))
     next = start_fine _ _ (omega arith) f.names
 
-abbrev FineMem : Mem → Type 0
-FineMem m = Fine m.reader
+    by : (v : Option ℕ) → FineWith (end_in s l v)
+    by None = fail_fine s f
+    by (Some v) = cond_keeps FineWith (is_some (name_after s v)) _ _ (λ _. fail_fine s f) (λ _. next)
 
-pub turn-fine : (m : Mem) (b : ℕ) → Fine m.reader → Fine (turn_of m b).reader
+abbrev FineMem : Reader → Type 0
+FineMem m = FineIn m.place
+
+at-fine : (s : Place) (rs ns : List ℕ) (b : ℕ) → Fine s → FineMem (turn_at s rs ns b)
+unfolding turn_at
+at-fine s rs ns b f =
+    cond_keeps FineMem (leb 512 s.items) _ _ (λ _. fail_fine s f)
+    (λ h. cond_keeps FineMem (eqb b 10) _ _ (λ _. end-fine s rs f (leb-false 512 s.items h))
+    (λ _. cond_keeps FineMem (eqb b 9) _ _ (λ _. tab_fine s rs s.value f)
+    (λ _. cond_keeps FineMem (in_name s) _ _ (λ _. letter-fine s b ns f) (λ _. digit-fine s b f))))
+
+turns-fine : (p : Result Place Unread) (rs ns : List ℕ) (b : ℕ) → FineIn p → FineMem (turn_in p rs ns b)
+turns-fine (Ok s) rs ns b f = at-fine s rs ns b f
+turns-fine (Err e) rs ns b f = f
+
+pub turn-fine : (m : Reader) (b : ℕ) → FineIn m.place → FineIn (turn_of m b).place
 unfolding turn_of
-turn-fine m b f =
-    cond_keeps FineMem s.unread _ _ (λ _. f)
-    (λ _. cond_keeps FineMem (leb 512 s.items) _ _ (λ _. fail_fine s f)
-    (λ h. cond_keeps FineMem (eqb b 10) _ _ (λ _. end-fine s m.rows f (leb-false 512 s.items h))
-    (λ _. cond_keeps FineMem (eqb b 9) _ _ (λ _. tab_fine s m.rows f)
-    (λ _. cond_keeps FineMem (eqb s.field s.name) _ _ (λ _. letter-fine s b m.names f) (λ _. digit-fine s b f)))))
-  where
-    s : Reader
-    s = m.reader
+turn-fine m b f = turns-fine m.place m.rows m.names b f
 
-pub run-fine : (m : Mem) (q : List ℕ) → Fine m.reader → Fine (run m q).reader
+pub run-fine : (m : Reader) (q : List ℕ) → FineIn m.place → FineIn (run m q).place
 run-fine m [] f = f
 run-fine m (b ∷ q) f = run-fine (turn_of m b) q (turn-fine m b f)
 
-pub ended-fine : (m : Mem) → Fine m.reader → Fine (ended m).reader
+ends-fine : (p : Result Place Unread) (rs ns : List ℕ) → FineIn p → FineMem (ended_in p rs ns)
+ends-fine (Ok s) rs ns f = cond_keeps FineMem (is_begun s) _ _ (λ _. at-fine s rs ns 10 f) (λ _. f)
+ends-fine (Err e) rs ns f = f
+
+pub ended-fine : (m : Reader) → FineIn m.place → FineIn (ended m).place
 unfolding ended
-ended-fine m f = cond_keeps FineMem m.reader.begun _ _ (λ _. turn-fine m 10 f) (λ _. cond_keeps FineMem (ltb 0 m.reader.field) _ _ (λ _. turn-fine m 10 f) (λ _. f))
+ended-fine m f = ends-fine m.place m.rows m.names f

@@ -10,7 +10,8 @@ use lib.Seq.{take-append-add, take-append_seam, get_or-append_seam}
 use lib.Dec.{leb, eqb}
 use borrow.Author.Tests.{le-leb, lt-leb, eq-eqb, ne_eqb}
 use Rattle.reader.specs.Lines.{every, value, is_number, Line, numbers, named, unreadable, plain, naming, kind_of, line_of, is_read_line}
-use Rattle.reader.specs.Steps.{name_at}
+use Rattle.std.specs.Prelude.{Option, Some, None, is_some}
+use Rattle.reader.specs.Steps.{Early, is_at, name_at, name_of_kind}
 use Rattle.reader.proofs.Values.{and_false, every_not}
 
 -- where the name stands in a line that begins with these fields
@@ -43,6 +44,52 @@ name-early k h = by (name_range k)
     by : ((0 < name_at k) × (name_at k ≤ 2)) ⊎ (name_at k ≡ 17) → name_at k ≤ 2
     by (inl r) = r.1
     by (inr e) = omega arith
+
+-- ---- the same as a field, or none
+pub kind-early : (k : ℕ) → Early (name_of_kind k)
+unfolding name_of_kind
+kind-early k = by (eqb k 48) (eqb k 49)
+  where
+    by : (t u : Bool) → Early (cond t (Some 1) (cond u (Some 2) None))
+    by true u = (omega arith, omega arith)
+    by false true = (omega arith, omega arith)
+    by false false = tt
+
+pub before-name : (k f : ℕ) → f < name_at k → is_at (name_of_kind k) f ≡ false
+unfolding name_at name_of_kind
+before-name k f = by (eqb k 48) (eqb k 49)
+  where
+    by : (t u : Bool) → f < cond t 1 (cond u 2 17) → is_at (cond t (Some 1) (cond u (Some 2) None)) f ≡ false
+    by true u h = ne_eqb f 1 (λ e. omega arith)
+    by false true h = ne_eqb f 2 (λ e. omega arith)
+    by false false h = refl
+
+pub name-some : (k n : ℕ) → name_at k ≡ n → n ≤ 16 → name_of_kind k ≡ Some n
+unfolding name_at name_of_kind
+name-some k n = by (eqb k 48) (eqb k 49)
+  where
+    by : (t u : Bool) → ◌≡◌ {A = ℕ} (cond t 1 (cond u 2 17)) n → n ≤ 16 → ◌≡◌ {A = Option ℕ} (cond t (Some 1) (cond u (Some 2) None)) (Some n)
+    by true u e h = ap Some e
+    by false true e h = ap Some e
+    by false false e h = absurd (omega arith)
+
+pub name-none : (k : ℕ) → name_at k ≡ 17 → is_some (name_of_kind k) ≡ false
+unfolding name_at name_of_kind
+name-none k = by (eqb k 48) (eqb k 49)
+  where
+    by : (t u : Bool) → ◌≡◌ {A = ℕ} (cond t 1 (cond u 2 17)) 17 → is_some {T = ℕ} (cond t (Some 1) (cond u (Some 2) None)) ≡ false
+    by true u e = absurd (omega arith)
+    by false true e = absurd (omega arith)
+    by false false e = refl
+
+pub name_given : (k : ℕ) → (name_at k ≡ 17 → ⊥) → is_some (name_of_kind k) ≡ true
+unfolding name_at name_of_kind
+name_given k = by (eqb k 48) (eqb k 49)
+  where
+    by : (t u : Bool) → (◌≡◌ {A = ℕ} (cond t 1 (cond u 2 17)) 17 → ⊥) → is_some {T = ℕ} (cond t (Some 1) (cond u (Some 2) None)) ≡ true
+    by true u e = refl
+    by false true e = refl
+    by false false e = absurd (e refl)
 
 line-by : (fs : List (List ℕ)) → line_of fs ≡ cond (eqb (name_by fs) 17) (plain fs) (naming (name_by fs) fs)
 unfolding line_of name_at

@@ -1,5 +1,5 @@
 -- The lines in turn: after each the reader stands at the start of the next, with the rows and names so far, or is unread for good.
-use mathlib.Core.Path.{◌≡◌, refl, sym, ap, ◌∙◌}
+use mathlib.Core.Path.{◌≡◌, refl, ap, ◌∙◌}
 use mathlib.Core.Bool.{Bool, true, false, ◌&&◌, false≢true, cond}
 use mathlib.Core.List.{List, [], ◌∷◌, ◌++◌, map}
 use Prim.Native.Nat.{ℕ, ◌+◌, ◌-◌, ◌*◌, ◌≤◌, ◌<◌}
@@ -7,14 +7,17 @@ use native.Mathlib.Omega.{arith}
 use lib.ListN.{length, take, replicate, length-append, length-replicate, length-map, length-take}
 use lib.Dec.{ltb, leb, eqb}
 use borrow.Author.Tests.{le-leb, ltb-true, ltb-false, leb-true}
+use Rattle.std.specs.Prelude.{Result, Ok, Err}
+use Rattle.reader.specs.declared.Place.{Place}
 use Rattle.reader.specs.declared.Reader.{Reader}
-use Rattle.reader.specs.declared.Reading.TheVariants.{Read}
+use Rattle.reader.specs.declared.Unread.{Unread}
+use Rattle.reader.specs.declared.Read.{Read}
 use Rattle.reader.specs.Lines.{lines, fields, every, value, is_number, Line, numbers, named, unreadable, plain, naming, kind_of, line_of, is_read_line, name_in, row_in, fits, Said, rows, unread, said_from, said}
-use Rattle.reader.specs.Steps.{line_start, failed, Mem, mem, turn_of, run, ended, reading_of, Tells}
-use Rattle.reader.proofs.Conds.{yes, no, cond_keeps}
+use Rattle.reader.specs.Steps.{line_start, unread_line, failed, mem, turn_at, turn_of, run, ended, ReadsIn, Reads, Tells}
+use Rattle.reader.proofs.Conds.{yes, cond_keeps}
 use Rattle.reader.proofs.Buffers.{over, over-front}
 use Rattle.reader.proofs.Cuts.{Free, Lined, none, last, more, lined, lines_more, lines-last}
-use Rattle.reader.proofs.Turns.{run-append, turn-unread, run-unread}
+use Rattle.reader.proofs.Turns.{run-append, turn-unread, run-unread, stays-unread}
 use Rattle.reader.proofs.InLine.{zeros}
 use Rattle.reader.proofs.OneLine.{After, line_read}
 use Rattle.reader.proofs.Keeps.{start_fine}
@@ -79,20 +82,19 @@ misfitting names l = by (is_read_line l)
 
 -- ---- the lines in turn
 module _ (lent : List ℕ) (long : length lent ≡ 2048) where
-  abbrev here : ℕ → List ℕ → List ℕ → Mem
-  here i rs names = mem (line_start i (length names)) (over zeros rs) (over lent names)
+  abbrev here : ℕ → List ℕ → List ℕ → Reader
+  here i rs names = mem (Ok (line_start i (length names))) (over zeros rs) (over lent names)
 
   -- past the last item any byte is unread
-  past : (s : Reader) (rs ns : List ℕ) (b : ℕ) → s.unread ≡ false → s.items ≡ 512 → mem (failed s) rs ns ≡ turn_of (mem s rs ns) b
-  unfolding turn_of
-  past s rs ns b u e = no s.unread _ u (yes _ _ (le-leb 512 s.items (omega arith)) refl)
+  past : (s : Place) (rs ns : List ℕ) (b : ℕ) → s.items ≡ 512 → mem (failed s) rs ns ≡ turn_of (mem (Ok s) rs ns) b
+  unfolding turn_of turn_at
+  past s rs ns b e = yes _ _ (le-leb 512 s.items (omega arith)) refl
 
   past-line : (rs names : List ℕ) (q : List ℕ) (l : Line) → After lent 512 rs names l (fits 512 names l) (turn_of (run (here 512 rs names) q) 10)
-  unfolding failed
-  past-line rs names [] l = rw (misfitting names l, ← past (line_start 512 (length names)) (over zeros rs) (over lent names) 10 refl refl) (refl, refl)
+  past-line rs names [] l = rw (misfitting names l, ← past (line_start 512 (length names)) (over zeros rs) (over lent names) 10 refl) refl
   past-line rs names (b ∷ q) l =
-      let m = mem (failed (line_start 512 (length names))) (over zeros rs) (over lent names) in
-      rw (misfitting names l, ← past (line_start 512 (length names)) (over zeros rs) (over lent names) b refl refl, run-unread m q refl, turn-unread m 10 refl) (refl, refl)
+      let e = unread_line (line_start 512 (length names)) in
+      rw (misfitting names l, ← past (line_start 512 (length names)) (over zeros rs) (over lent names) b refl, run-unread e (over zeros rs) (over lent names) q, turn-unread e (over zeros rs) (over lent names) 10) refl
 
   any_line : (i : ℕ) (rs names q : List ℕ) → length rs ≡ i * 17 → i ≤ 512 → length names ≤ 2048 → Free q
       → After lent i rs names (line_of (fields q)) (fits i names (line_of (fields q))) (turn_of (run (here i rs names) q) 10)
@@ -103,44 +105,48 @@ module _ (lent : List ℕ) (long : length lent ≡ 2048) where
       by false e = let z : i ≡ 512 = omega (arith, ltb-false i 512 e) in rw z (past-line rs names q (line_of (fields q)))
 
   -- ---- what the reader comes to
-  abbrev Told : Said → Mem → Type 0
-  Told s m = Tells s (reading_of m.reader) m.rows m.names
+  abbrev Told : Said → Reader → Type 0
+  Told s m = (r : Result Read Unread) → Reads m r → Tells s r
 
   read_here : (i : ℕ) (rs names : List ℕ) → length rs ≡ i * 17 → Told (rows rs names) (here i rs names)
-  unfolding reading_of
-  read_here i rs names whole = (ap (λ (n : ℕ). Read n (length names)) (sym whole), over-front zeros rs, over-front lent names)
+  read_here i rs names whole (Ok r) h = (h.0 ∙ rw (← whole) (over-front zeros rs), h.1 ∙ over-front lent names)
+  read_here i rs names whole (Err e) h = h
 
-  unread-here : (i : ℕ) (m : Mem) → m.reader.unread ≡ true → m.reader.items ≡ i → Told (unread (i + 1)) m
-  unfolding reading_of
-  unread-here i m u e = sym (yes m.reader.unread _ u (rw e))
+  unread-here : (i : ℕ) (m : Reader) → m.place ≡ Err (record { line = i + 1 }) → Told (unread (i + 1)) m
+  unread-here i m e r h = by m.place e r h
+    where
+      by : (p : Result Place Unread) → p ≡ Err (record { line = i + 1 }) → (r : Result Read Unread) → ReadsIn p m.rows m.names r → Tells (unread (i + 1)) r
+      by (Ok s) e r h = absurd (cc e)
+      by (Err u) e (Ok r) h = h
+      by (Err u) e (Err f) h = let k : u ≡ record { line = i + 1 } = cc in ap (λ (u : Unread). u.line) (h ∙ k)
 
   -- a line, and whatever comes after it, which leaves an unread line alone
   module _ (i : ℕ) (rs names q : List ℕ) (whole : length rs ≡ i * 17) (h : i ≤ 512) (few : length names ≤ 2048) (free : Free q) where
     l : Line
     l = line_of (fields q)
 
-    next-line : (rest : Mem → Mem) (ls : List (List ℕ)) → ((m : Mem) → m.reader.unread ≡ true → rest m ≡ m)
+    next-line : (rest : Reader → Reader) (ls : List (List ℕ)) → ((m : Reader) (u : Unread) → m.place ≡ Err u → rest m ≡ m)
         → (length (rs ++ row_in (length names) l) ≡ (i + 1) * 17 → i + 1 ≤ 512 → length (names ++ name_in l) ≤ 2048 → Told (said_from (i + 1) (rs ++ row_in (length names) l) (names ++ name_in l) ls) (rest (here (i + 1) (rs ++ row_in (length names) l) (names ++ name_in l))))
         → Told (said_from i rs names (q ∷ ls)) (rest (turn_of (run (here i rs names) q) 10))
     unfolding l
     next-line rest ls stays next = by (fits i names l) refl _ (any_line i rs names q whole h few free)
       where
-        by : (t : Bool) → fits i names l ≡ t → (m : Mem) → After lent i rs names l t m → Told (cond t (said_from (i + 1) (rs ++ row_in (length names) l) (names ++ name_in l) ls) (unread (i + 1))) (rest m)
+        by : (t : Bool) → fits i names l ≡ t → (m : Reader) → After lent i rs names l t m → Told (cond t (said_from (i + 1) (rs ++ row_in (length names) l) (names ++ name_in l) ls) (unread (i + 1))) (rest m)
         by true e m a =
             let f = fitting i names l e in
             rw a
             (next (length-append rs (row_in (length names) l) ∙ rw (row-long (length names) l (line-short (fields q)) f.read, whole) (omega arith)) (omega (arith, f.small)) (rw (length-append names (name_in l)) f.few))
-        by false e m a = rw (stays m a.0) (unread-here i m a.0 a.1)
+        by false e m a = rw (stays m _ a) (unread-here i m a)
 
   whole_input : {bs : List ℕ} → Lined bs → (i : ℕ) (rs names : List ℕ) → length rs ≡ i * 17 → i ≤ 512 → length names ≤ 2048 → Told (said_from i rs names (lines bs)) (ended (run (here i rs names) bs))
   unfolding ended
   whole_input none i rs names whole h few = read_here i rs names whole
   whole_input (last b q free) i rs names whole h few =
       rw (lines-last b q free, ended_at_hand (run (here i rs names) (b ∷ q)) (run_at_hand (here i rs names) b q (start_fine i (length names) h few) free))
-      (next-line i rs names (b ∷ q) whole h few free (λ m. m) [] (λ m u. refl) (λ w k f. read_here (i + 1) _ _ w))
+      (next-line i rs names (b ∷ q) whole h few free (λ m. m) [] (λ m u e. refl) (λ w k f. read_here (i + 1) _ _ w))
   whole_input (more q rest free r) i rs names whole h few =
       rw (lines_more q rest free, run-append (here i rs names) q (10 ∷ rest))
-      (next-line i rs names q whole h few free (λ m. ended (run m rest)) (lines rest) (λ m u. ap ended (run-unread m rest u) ∙ ended-unread m u) (λ w k f. whole_input r (i + 1) _ _ w k f))
+      (next-line i rs names q whole h few free (λ m. ended (run m rest)) (lines rest) (λ m u e. ap ended (stays-unread m u rest e) ∙ ended-unread m u e) (λ w k f. whole_input r (i + 1) _ _ w k f))
 
   pub told : (input : List ℕ) → Told (said input) (ended (run (here 0 [] []) input))
   told input = whole_input (lined input) 0 [] [] refl (omega arith) (omega arith)

@@ -5,250 +5,274 @@ pub mod input;
 
 ghost use Rattle.std.specs.Prelude.{◌≡◌, List, [], ◌++◌, ℕ, ◌<◌};
 ghost use Rattle.reader.specs.Lines.{said};
-ghost use Rattle.reader.specs.Steps.{Fine, line_start, failed, digit_of, with, letter_of, name_at, name_of, tab_of, end_of, mem, turn_of, ended, reading_of, Has, HasSome, Tells, Within};
+ghost use Rattle.reader.specs.Steps.{Fine, FineIn, line_start, unread_line, is_begun, in_name, with_digit, digit_of, with, letter_of, name_of_kind, name_after, tab_of, end_of, mem, turn_at, turn_of, ended, Reads, Has, HasSome, Tells, Within};
 
-// Where a reader stands: the line at hand is number `items` + 1.
+// A place in the line at hand, which is number `items` + 1. What holds of it, `Fine`, stands in the contracts: a type with an invariant
+// has no `..self`.
 #[derive(Clone, Copy)]
-pub struct Reader {
+pub struct Place {
     // The lines before.
     pub items: usize,
     // The fields of this line that are over.
     pub field: usize,
-    // Which field of this line is its name: 17 for none, or where the kind is not over.
-    pub name: usize,
-    // Whether the number at hand has a digit, and its value so far.
-    pub begun: bool,
-    pub value: u32,
+    // Which field of this line is its name, if its kind is over and has one.
+    pub name: Option<usize>,
+    // The value so far of the number at hand, if it has a digit.
+    pub value: Option<u32>,
     // The name bytes of the lines before, and of this line.
     pub start: usize,
     pub bytes: usize,
-    // Whether this line is unread.
-    pub unread: bool,
 }
 
-// What an input says: how many numbers of rows and how many name bytes, or the first line that is unread.
+// The first line that is unread, numbered from 1.
 #[derive(Clone, Copy)]
-pub enum Reading {
-    Read(usize, usize),
-    Unread(usize),
+pub struct Unread {
+    pub line: usize,
 }
 
-impl Reader {
+// A reader: its place in the line at hand, or past one that is unread; and what the lines before say, with zeros after it.
+#[derive(Drop)]
+pub struct Reader {
+    pub place: Result<Place, Unread>,
+    pub rows: [u32; 8704],
+    pub names: [u8; 2048],
+}
+
+// The rows and names that an input says.
+#[derive(Clone, Copy)]
+pub struct Read<'a> {
+    pub rows: &'a [u32],
+    pub names: &'a [u8],
+}
+
+// Which field is the name in a line of the kind.
+#[tactic(auto, unfolding(crate::specs::Steps::name_of_kind))]
+fn name_of_kind(kind: u32) -> Option<usize>
+    ensures { result ≡ name_of_kind kind }
+{
+    match kind {
+        48 => Some(1),
+        49 => Some(2),
+        _ => None,
+    }
+}
+
+// The value of decimal digits, if there are any, with a byte more: none where that is no digit, or the value has over 32 bits.
+#[tactic(auto, unfolding(crate::specs::Steps::with_digit))]
+pub fn with_digit(value: Option<u32>, b: u8) -> Option<u32>
+    ensures { result ≡ with_digit value b }
+{
+    let digit = char::from(b).to_digit(10)?;
+    value.unwrap_or(0).checked_mul(10)?.checked_add(digit)
+}
+
+impl Place {
     // The start of a line, after so many items and name bytes.
-    fn line_start(items: usize, start: usize) -> Reader
+    fn line_start(items: usize, start: usize) -> Place
         ensures { result ≡ line_start items start }
     {
-        Reader {
+        Place {
             items,
             field: 0,
-            name: 17,
-            begun: false,
-            value: 0,
+            name: None,
+            value: None,
             start,
             bytes: 0,
-            unread: false,
         }
     }
 
-    // The line at hand is unread.
-    #[tactic(auto, unfolding(crate::specs::Steps::failed))]
-    fn failed(self) -> Reader
-        ensures { result ≡ failed self }
+    // The line at hand, as one that is unread.
+    fn unread(self) -> Unread
+        requires { Fine self }
+        ensures { result ≡ unread_line self }
     {
-        let mut s = self;
-        s.unread = true;
-        s
+        Unread {
+            line: self.items + 1,
+        }
+    }
+
+    // Whether the line at hand has a digit, or a field that is over.
+    fn is_begun(self) -> bool
+        ensures { result ≡ is_begun self }
+    {
+        self.value.is_some() || 0 < self.field
+    }
+
+    // Whether the field at hand is the name.
+    fn is_in_name(self) -> bool
+        ensures { result ≡ in_name self }
+    {
+        self.name == Some(self.field)
     }
 
     // A byte of a number.
-    #[tactic(auto, unfolding(crate::specs::Steps::digit_of, crate::specs::Steps::failed))]
-    fn digit(self, b: u8) -> Reader
+    fn digit(self, b: u8) -> Result<Place, Unread>
+        requires { Fine self }
         ensures { result ≡ digit_of self b }
     {
-        if b < 48 {
-            return self.failed();
-        }
-        if 57 < b {
-            return self.failed();
-        }
-        let v = (self.value as u64) * 10 + ((b - 48) as u64);
-        if 0x1_0000_0000 <= v {
-            return self.failed();
-        }
-        let mut s = self;
-        s.begun = true;
-        s.value = v as u32;
-        s
+        let Some(value) = with_digit(self.value, b) else {
+            return Err(self.unread());
+        };
+        Ok(Place {
+            value: Some(value),
+            ..self
+        })
     }
 
     // A byte of a name.
-    #[tactic(auto, unfolding(crate::specs::Steps::letter_of, crate::specs::Steps::failed))]
-    fn letter(self, b: u8, names: &mut [u8; 2048]) -> Reader
+    #[tactic(auto, unfolding(crate::specs::Steps::letter_of))]
+    fn letter(self, b: u8, names: &mut [u8; 2048]) -> Result<Place, Unread>
         requires { Fine self }
         ensures { with result names.new ≡ letter_of self b names.old }
     {
         let at = self.start + self.bytes;
         if 2048 <= at {
-            return self.failed();
+            return Err(self.unread());
         }
         names[at] = b;
-        let mut s = self;
-        s.bytes += 1;
-        s
+        Ok(Place {
+            bytes: self.bytes + 1,
+            ..self
+        })
     }
 
-    // Which field is the name, once the field at hand is over.
-    fn name_of(self) -> usize
-        ensures { result ≡ name_of self }
+    // Which field is the name, once the number at hand is over.
+    fn name_after(self, value: u32) -> Option<usize>
+        ensures { result ≡ name_after self value }
     {
         if self.field == 0 {
-            return name_at(self.value);
+            return name_of_kind(value);
         }
         self.name
     }
 
     // A tab: the number at hand is over, and another field begins.
-    #[tactic(auto, unfolding(crate::specs::Steps::tab_of, crate::specs::Steps::failed))]
-    fn tab(self, rows: &mut [u32; 8704]) -> Reader
+    #[tactic(auto, unfolding(crate::specs::Steps::tab_in))]
+    fn tab(self, rows: &mut [u32; 8704]) -> Result<Place, Unread>
         requires { (Fine self) × (self.items < 512) }
         ensures { with result rows.new ≡ tab_of self rows.old }
     {
-        if !self.begun {
-            return self.failed();
-        }
+        let Some(value) = self.value else {
+            return Err(self.unread());
+        };
         if 16 <= self.field {
-            return self.failed();
+            return Err(self.unread());
         }
-        let at = self.items * 17 + self.field;
-        rows[at] = self.value;
-        let mut s = self;
-        s.name = self.name_of();
-        s.field += 1;
-        s.begun = false;
-        s.value = 0;
-        s
+        rows[self.items * 17 + self.field] = value;
+        Ok(Place {
+            field: self.field + 1,
+            name: self.name_after(value),
+            value: None,
+            ..self
+        })
     }
 
     // Byte 10: the field at hand is over, and so is the line.
-    #[tactic(auto, unfolding(crate::specs::Steps::end_of, crate::specs::Steps::failed))]
-    fn end(self, rows: &mut [u32; 8704]) -> Reader
+    #[tactic(auto, unfolding(crate::specs::Steps::end_of))]
+    fn end(self, rows: &mut [u32; 8704]) -> Result<Place, Unread>
         requires { (Fine self) × (self.items < 512) }
         ensures { with result rows.new ≡ end_of self rows.old }
     {
         let at = self.items * 17 + self.field;
-        let next = Reader::line_start(self.items + 1, self.start + self.bytes);
-        if self.field == self.name {
+        let next = Place::line_start(self.items + 1, self.start + self.bytes);
+        if self.is_in_name() {
             rows[at] = self.start as u32;
             rows[at + 1] = self.bytes as u32;
-            return next;
+            return Ok(next);
         }
-        if !self.begun {
-            return self.failed();
+        let Some(value) = self.value else {
+            return Err(self.unread());
+        };
+        if self.name_after(value).is_some() {
+            return Err(self.unread());
         }
-        if self.name_of() != 17 {
-            return self.failed();
-        }
-        rows[at] = self.value;
-        next
+        rows[at] = value;
+        Ok(next)
     }
 
     // One byte.
-    #[tactic(auto, unfolding(crate::specs::Steps::turn_of, crate::specs::Steps::failed))]
-    fn turn(self, b: u8, rows: &mut [u32; 8704], names: &mut [u8; 2048]) -> Reader
+    #[tactic(auto, unfolding(crate::specs::Steps::turn_at))]
+    fn turn(self, b: u8, rows: &mut [u32; 8704], names: &mut [u8; 2048]) -> Result<Place, Unread>
         requires { Fine self }
-        ensures { mem result rows.new names.new ≡ turn_of (mem self rows.old names.old) b }
+        ensures { mem result rows.new names.new ≡ turn_at self rows.old names.old b }
     {
-        if self.unread {
-            return self;
-        }
         if 512 <= self.items {
-            return self.failed();
+            return Err(self.unread());
         }
-        if b == 10 {
-            return self.end(rows);
+        match b {
+            b'\n' => self.end(rows),
+            b'\t' => self.tab(rows),
+            _ if self.is_in_name() => self.letter(b, names),
+            _ => self.digit(b),
         }
-        if b == 9 {
-            return self.tab(rows);
-        }
-        if self.field == self.name {
-            return self.letter(b, names);
-        }
-        self.digit(b)
     }
-}
-
-// Which field is the name in a line of the kind: 17 for none of them.
-#[tactic(auto, unfolding(crate::specs::Steps::name_at))]
-fn name_at(kind: u32) -> usize
-    ensures { result ≡ name_at kind }
-{
-    if kind == 48 {
-        return 1;
-    }
-    if kind == 49 {
-        return 2;
-    }
-    17
 }
 
 impl Reader {
-    // A reader that has read nothing; it leaves zeros in the buffers.
-    pub fn new(rows: &mut [u32; 8704], names: &mut [u8; 2048]) -> Reader
-        ensures { Has [] result rows.new names.new }
+    // A reader that has read nothing.
+    pub fn new() -> Reader
+        ensures { Has [] result }
     {
-        *rows = [0; 8704];
-        *names = [0; 2048];
-        Reader::line_start(0, 0)
+        Reader {
+            place: Ok(Place::line_start(0, 0)),
+            rows: [0; 8704],
+            names: [0; 2048],
+        }
     }
 
-    // A chunk of the input is read: what it says so far is in the buffers.
-    pub fn feed(self, chunk: &[u8], rows: &mut [u32; 8704], names: &mut [u8; 2048]) -> Reader
-        requires { HasSome self rows.old names.old }
-        ensures { (past : List ℕ) → Has past self rows.old names.old → Has (past ++ chunk.now) result rows.new names.new }
+    // One byte; past an unread line nothing is read.
+    #[tactic(auto, unfolding(crate::specs::Steps::turn_of))]
+    fn turn(&mut self, b: u8)
+        requires { FineIn self.old.place }
+        ensures { self.new ≡ turn_of self.old b }
     {
-        let mut s = self;
-        let mut i = 0;
-        while i < chunk.len() {
-            s = s.turn(chunk[i], rows, names);
-            i += 1;
+        if let Ok(place) = self.place {
+            self.place = place.turn(b, &mut self.rows, &mut self.names);
         }
-        s
+    }
+
+    // A chunk of the input is read.
+    pub fn feed(&mut self, chunk: &[u8])
+        requires { HasSome self.old }
+        ensures { (past : List ℕ) → Has past self.old → Has (past ++ chunk.now) self.new }
+    {
+        for b in chunk {
+            self.turn(*b);
+        }
     }
 
     // The input ends, and with it a line at hand.
-    #[tactic(auto, unfolding(crate::specs::Steps::ended))]
-    fn ended(self, rows: &mut [u32; 8704], names: &mut [u8; 2048]) -> Reader
-        requires { Fine self }
-        ensures { mem result rows.new names.new ≡ ended (mem self rows.old names.old) }
+    #[tactic(auto, unfolding(crate::specs::Steps::ended, crate::specs::Steps::turn_of))]
+    fn end(&mut self)
+        requires { FineIn self.old.place }
+        ensures { self.new ≡ ended self.old }
     {
-        if self.begun {
-            return self.turn(10, rows, names);
+        if let Ok(place) = self.place {
+            if place.is_begun() {
+                self.turn(b'\n');
+            }
         }
-        if 0 < self.field {
-            return self.turn(10, rows, names);
-        }
-        self
     }
 
-    // What it comes to.
-    #[tactic(auto, unfolding(crate::specs::Steps::reading_of))]
-    fn reading(self) -> Reading
-        requires { Fine self }
-        ensures { (result ≡ reading_of self) × Within result }
+    // What the lines before say.
+    fn reading(&self) -> Result<Read<'_>, Unread>
+        requires { FineIn self.now.place }
+        ensures { Reads self.now result }
     {
-        if self.unread {
-            return Reading::Unread(self.items + 1);
-        }
-        Reading::Read(self.items * 17, self.start)
+        let place = self.place?;
+        Ok(Read {
+            rows: &self.rows[..place.items * 17],
+            names: &self.names[..place.start],
+        })
     }
 
-    // What the whole input says, with its rows and names at the front of the buffers.
-    pub fn finish(self, rows: &mut [u32; 8704], names: &mut [u8; 2048]) -> Reading
-        requires { HasSome self rows.old names.old }
-        ensures by_index { (input : List ℕ) → Has input self rows.old names.old → Tells (said input) result rows.new names.new }
+    // What the whole input says.
+    pub fn finish(&mut self) -> Result<Read<'_>, Unread>
+        requires { HasSome self.old }
+        ensures by_index { (input : List ℕ) → Has input self.old → Tells (said input) result }
         ensures within { Within result }
     {
-        let s = self.ended(rows, names);
-        s.reading()
+        self.end();
+        self.reading()
     }
 }

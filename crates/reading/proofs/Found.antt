@@ -1,20 +1,19 @@
 -- What the reader finds is what stands at the front of the parcels.
 use mathlib.Core.Path.{◌≡◌, sym, subst}
-use mathlib.Core.Logic.{◌≢◌}
 use mathlib.Core.List.{List}
 use Prim.Native.Nat.{ℕ}
-use borrow.Author.Tests.{eq-eqb, ne_eqb}
+use Rattle.std.specs.Prelude.{Option, Some, None}
 use Rattle.known.specs.declared.Known.{Known}
 use Rattle.known.specs.Front.{Front, known, unknown, Parcels}
 use Rattle.known.specs.Window.{known_at, reading_of}
 use Rattle.inverse.proofs.Fronts.{front-is}
 
-module _ {ps : List ℕ} (each : Parcels ps) {k : Known} (found : k ≡ known_at ps) where
-  here : Front ps (reading_of k)
-  here = subst (λ (k : Known). Front ps (reading_of k)) (sym found) (front-is ps each)
+module _ {ps : List ℕ} (each : Parcels ps) where
+  here : {o : Option Known} → o ≡ known_at ps → Front ps (reading_of o)
+  here found = subst (λ (o : Option Known). Front ps (reading_of o)) (sym found) (front-is ps each)
 
-  pub none_found : k.parcels ≡ 0 → Front ps unknown
-  none_found e = rw (eq-eqb k.parcels 0 e) at here
+  pub none_found : None ≡ known_at ps → Front ps unknown
+  none_found found = here found
 
-  pub one_found : k.parcels ≢ 0 → Front ps (known k.parcels k.row)
-  one_found e = rw (ne_eqb k.parcels 0 e) at here
+  pub one_found : {k : Known} → Some k ≡ known_at ps → Front ps (known k.parcels k.row)
+  one_found found = here found

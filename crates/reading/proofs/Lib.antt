@@ -1,4 +1,3 @@
-pub mod Wiping
 pub mod Found
 pub mod Walked
 pub mod Numbers

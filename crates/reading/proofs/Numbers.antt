@@ -5,8 +5,8 @@ use Prim.Native.Nat.{ℕ, ◌+◌, ◌*◌, ◌≤◌}
 use native.Mathlib.Omega.{arith}
 use lib.ListN.{length, length-append}
 use lib.IntN.{pos}
-use Rattle.refusals.specs.declared.Verdict.{Verdict}
-use Rattle.refusals.specs.declared.Verdict.TheVariants.{Good, Refused}
+use Rattle.std.specs.Prelude.{Ok, Err}
+use Rattle.refusals.specs.Answers.{Verdict}
 use Rattle.refusals.specs.Calls.{reads_back, Listed}
 use Rattle.rows.specs.Rows.{row_width}
 use Rattle.reading.specs.declared.ToldRows.{ToldRows}
@@ -24,7 +24,7 @@ module _ {room : ℕ} where
   goes-tells (next f h rest) n = goes-tells rest n
 
   -- 0 is told of good verdicts alone
-  pub good_zero : {place done : ℕ} {ps rows places : List ℕ} {v : Verdict} → Goes room place done ps rows places v → (n : ℕ) → (told_rows v n).number ≡ 0 → v ≡ Good
+  pub good_zero : {place done : ℕ} {ps rows places : List ℕ} {v : Verdict} → Goes room place done ps rows places v → (n : ℕ) → (told_rows v n).number ≡ 0 → v ≡ Ok tt
   good_zero ended n e = refl
   good_zero (strange f) n e = absurd (omega arith)
   good_zero (full f h) n e = absurd (omega arith)
@@ -46,8 +46,8 @@ module _ {room : ℕ} where
 
 -- a refusal counts no rows
 counts-most : (v : Verdict) (n : ℕ) → (told_rows v n).rows ≤ n
-counts-most Good n = omega arith
-counts-most (Refused r) n = omega arith
+counts-most (Ok _) n = omega arith
+counts-most (Err r) n = omega arith
 
 -- ---- of the answer
 module _ {parcels rows places : List ℕ} {t : ToldRows} {r p : List ℕ} (x : ReadsBack parcels rows places t r p) where

@@ -5,7 +5,7 @@ use mathlib.Core.List.{List, ◌∷◌, ◌++◌}
 use Prim.Native.Nat.{ℕ}
 use native.Mathlib.Omega.{arith}
 use lib.ListN.{length}
-use Rattle.refusals.specs.declared.Verdict.{Verdict}
+use Rattle.refusals.specs.Answers.{Verdict}
 use Rattle.known.specs.Front.{known, unknown}
 use Rattle.places.specs.Left.{put}
 use Rattle.reading.specs.declared.ToldRows.{ToldRows}

@@ -8,8 +8,8 @@ use native.Mathlib.Nat.{le_of_suc-le-suc}
 use native.Mathlib.Numerals.{add-one}
 use lib.ListN.{length, drop, set, length-drop}
 use lib.Seq.{paste, drop-nil, drop-drop}
-use Rattle.refusals.specs.declared.Verdict.{Verdict}
-use Rattle.refusals.specs.declared.Verdict.TheVariants.{Good, Refused}
+use Rattle.std.specs.Prelude.{Ok, Err, Some, None}
+use Rattle.refusals.specs.Answers.{Verdict}
 use Rattle.refusals.specs.declared.Refusal.{Refusal}
 use Rattle.refusals.specs.declared.Refusal.TheVariants.{UnknownForm, NoRoomForRows}
 use Rattle.rows.specs.Rows.{row_width}
@@ -20,8 +20,8 @@ use Rattle.reading.specs.Back.{Goes, ended, strange, full, next, room_in, ReadsB
 use Rattle.stores.specs.Stores.{Begins}
 use Rattle.reading.specs.Walk.{Wiped, WalksBack}
 use Rattle.reading.specs.declared.Walk.{Walk}
-use Rattle.reading.specs.declared.Back.TheVariants as back
 use Rattle.inverse.proofs.Small.{parcels-drop}
+use Rattle.inverse.proofs.Fronts.{front_some}
 use Rattle.reading.proofs.Found.{none_found, one_found}
 use Rattle.stores.proofs.Stores.{begins_unwritten, begins-one, begins-run, begins-past, row-after}
 
@@ -41,12 +41,12 @@ drop_all (x ∷ l) (suc n) h = drop_all l n (le_of_suc-le-suc h)
 
 -- ---- the ways to go on or to stop, over parcels of which there are some
 module _ {room place done : ℕ} where
-  goes-strange : (ps : List ℕ) → 0 < length ps → Front ps unknown → Goes room place done ps [] [] (Refused (UnknownForm place))
+  goes-strange : (ps : List ℕ) → 0 < length ps → Front ps unknown → Goes room place done ps [] [] (Err (UnknownForm place))
   goes-strange [] some f = absurd (omega arith)
   goes-strange (p ∷ ps) some f = strange f
 
   module _ {n : ℕ} {row : List ℕ} where
-    goes-full : (ps : List ℕ) → 0 < length ps → Front ps (known n row) → room ≤ done → Goes room place done ps [] [] (Refused (NoRoomForRows room))
+    goes-full : (ps : List ℕ) → 0 < length ps → Front ps (known n row) → room ≤ done → Goes room place done ps [] [] (Err (NoRoomForRows room))
     goes-full [] some f h = absurd (omega arith)
     goes-full (p ∷ ps) some f h = full f h
 
@@ -94,11 +94,11 @@ module _ {parcels rows₀ places₀ : List ℕ} where
         }
 
     -- at the end of the parcels
-    pub walked_end : length parcels ≤ at → WalksBack parcels rows₀ places₀ (record { done = done; verdict = Good }) rows places
+    pub walked_end : length parcels ≤ at → WalksBack parcels rows₀ places₀ (record { done = done; verdict = Ok tt }) rows places
     walked_end h = stopped (rw (drop_all parcels at h) ended)
 
     -- what is found at a parcel
-    module _ (more : at < length parcels) {k : Known} (found : k ≡ known_at (drop at parcels)) where
+    module _ (more : at < length parcels) where
       some : 0 < length (drop at parcels)
       some = simp length-drop (omega arith)
 
@@ -106,18 +106,21 @@ module _ {parcels rows₀ places₀ : List ℕ} where
       each = parcels-drop at parcels w.each
 
       -- it starts no known form
-      pub walked-strange : k.parcels ≡ 0 → WalksBack parcels rows₀ places₀ (record { done = done; verdict = Refused (UnknownForm at) }) rows places
-      walked-strange none = stopped (goes-strange _ some (none_found each found none))
+      pub walked-strange : None ≡ known_at (drop at parcels) → WalksBack parcels rows₀ places₀ (record { done = done; verdict = Err (UnknownForm at) }) rows places
+      walked-strange none = stopped (goes-strange _ some (none_found each none))
 
-      module _ (one : k.parcels ≢ 0) where
+      module _ {k : Known} (one : Some k ≡ known_at (drop at parcels)) where
         front : Front (drop at parcels) (known k.parcels k.row)
-        front = one_found each found one
+        front = one_found each one
+
+        pub walked-on : 0 < k.parcels
+        walked-on = front_some front
 
         pub walked-within : at + k.parcels ≤ length parcels
         walked-within = let h = front-within front in let e = length-drop at parcels in omega arith
 
         -- the room is full
-        pub walked-full : {room : ℕ} → room ≡ room_in rows₀ places₀ → done ≡ room → WalksBack parcels rows₀ places₀ (record { done = done; verdict = Refused (NoRoomForRows room) }) rows places
+        pub walked-full : {room : ℕ} → room ≡ room_in rows₀ places₀ → done ≡ room → WalksBack parcels rows₀ places₀ (record { done = done; verdict = Err (NoRoomForRows room) }) rows places
         walked-full e h = rw e (stopped (goes-full _ some front (omega arith)))
 
         -- a row more
@@ -140,25 +143,25 @@ module _ {parcels rows₀ places₀ : List ℕ} where
 
 -- ---- the two steps together
 module _ {parcels rows₀ places₀ rows places : List ℕ} {walk : Walk} (w : WalksBack parcels rows₀ places₀ walk rows places) where
-  pub reads-good : walk.verdict ≡ Good → ReadsBack parcels rows₀ places₀ (told_back (back.Rows walk.done)) rows places
+  pub reads-good : walk.verdict ≡ Ok tt → ReadsBack parcels rows₀ places₀ (told_back (Ok walk.done)) rows places
   reads-good e =
       record {
         new_rows = w.new_rows;
         new_places = w.new_places;
-        verdict = Good;
+        verdict = Ok tt;
         goes = rw e at w.goes;
         answer = rw w.places_left.long;
         rows_left = rw w.rows_left.long w.rows_left.here;
         places_left = rw w.places_left.long w.places_left.here;
       }
 
-  pub reads-refused : {r : Refusal} {rows' places' : List ℕ} → walk.verdict ≡ Refused r → Wiped rows (walk.done * row_width) rows' → Wiped places walk.done places'
-      → ReadsBack parcels rows₀ places₀ (told_back (back.Refused r)) rows' places'
+  pub reads-refused : {r : Refusal} {rows' places' : List ℕ} → walk.verdict ≡ Err r → Wiped rows (walk.done * row_width) rows' → Wiped places walk.done places'
+      → ReadsBack parcels rows₀ places₀ (told_back (Err r)) rows' places'
   reads-refused {r} e wiped-rows wiped-places =
       record {
         new_rows = w.new_rows;
         new_places = w.new_places;
-        verdict = Refused r;
+        verdict = Err r;
         goes = rw e at w.goes;
         answer = refl;
         rows_left = rw (w.rows_left.long, ← begins-past w.rows_left) wiped-rows.here;

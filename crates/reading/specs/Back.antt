@@ -1,22 +1,20 @@
 -- Document 02, wish 4: "parcels in, instruction rows out into a lent slice, with the place of each row".
-use Rattle.std.specs.Prelude.{◌≡◌, List, [], ◌∷◌, ◌++◌, ℕ, suc, ◌+◌, ◌/◌, ◌<◌, ◌≤◌, min, pos, length, drop}
-use Rattle.refusals.specs.declared.Verdict.{Verdict}
-use Rattle.refusals.specs.declared.Verdict.TheVariants.{Good, Refused}
+use Rattle.std.specs.Prelude.{◌≡◌, List, [], ◌∷◌, ◌++◌, ℕ, suc, ◌+◌, ◌/◌, ◌<◌, ◌≤◌, min, pos, length, drop, Ok, Err, Result}
+use Rattle.refusals.specs.Answers.{Verdict}
+use Rattle.refusals.specs.declared.Refusal.{Refusal}
 use Rattle.refusals.specs.declared.Refusal.TheVariants.{UnknownForm, NoRoomForRows}
 use Rattle.refusals.specs.Numbers.{told_of}
 use Rattle.rows.specs.Rows.{row_width}
 use Rattle.places.specs.Left.{put}
 use Rattle.known.specs.Front.{Front, known, unknown}
-use Rattle.reading.specs.declared.Back.{Back}
-use Rattle.reading.specs.declared.Back.TheVariants as back
 use Rattle.reading.specs.declared.ToldRows.{ToldRows}
 
 -- what is read from a place on, after so many rows: the rows, their places, and whether it comes to the end of the parcels; "35 for a parcel that
 -- starts no known form or a form cut short, with its place; then 36 when rows or places are full, with the smaller room"
 pub data Goes (room : ℕ) : ℕ → ℕ → List ℕ → List ℕ → List ℕ → Verdict → Type 0 where
-  ended : {place done : ℕ} → Goes room place done [] [] [] Good
-  strange : {place done p : ℕ} {ps : List ℕ} → Front (p ∷ ps) unknown → Goes room place done (p ∷ ps) [] [] (Refused (UnknownForm place))
-  full : {place done p n : ℕ} {ps row : List ℕ} → Front (p ∷ ps) (known n row) → room ≤ done → Goes room place done (p ∷ ps) [] [] (Refused (NoRoomForRows room))
+  ended : {place done : ℕ} → Goes room place done [] [] [] (Ok tt)
+  strange : {place done p : ℕ} {ps : List ℕ} → Front (p ∷ ps) unknown → Goes room place done (p ∷ ps) [] [] (Err (UnknownForm place))
+  full : {place done p n : ℕ} {ps row : List ℕ} → Front (p ∷ ps) (known n row) → room ≤ done → Goes room place done (p ∷ ps) [] [] (Err (NoRoomForRows room))
   next :
       {place done p n : ℕ} {ps row rows places : List ℕ} {v : Verdict} → Front (p ∷ ps) (known n row) → done < room →
       Goes room (place + n) (suc done) (drop n (p ∷ ps)) rows places v → Goes room place done (p ∷ ps) (row ++ rows) (place ∷ places) v
@@ -27,12 +25,12 @@ room_in rows places = min (length rows / row_width) (length places)
 
 -- the answer in numbers: 0 and the rows read, or a refusal's number and its detail
 abbrev pub told_rows : Verdict → ℕ → ToldRows
-told_rows Good n = record { rows = n; first = pos 0; second = pos 0; third = pos 0; number = 0; spare = 0 }
-told_rows (Refused r) n = record { rows = 0; first = (told_of r).first; second = (told_of r).second; third = (told_of r).third; number = (told_of r).number; spare = 0 }
+told_rows (Ok _) n = record { rows = n; first = pos 0; second = pos 0; third = pos 0; number = 0; spare = 0 }
+told_rows (Err r) n = record { rows = 0; first = (told_of r).first; second = (told_of r).second; third = (told_of r).third; number = (told_of r).number; spare = 0 }
 
-abbrev pub told_back : Back → ToldRows
-told_back (back.Rows n) = told_rows Good n
-told_back (back.Refused r) = told_rows (Refused r) 0
+abbrev pub told_back : Result ℕ Refusal → ToldRows
+told_back (Ok n) = told_rows (Ok tt) n
+told_back (Err r) = told_rows (Err r) 0
 
 -- THE CONTRACT: what is told and left is what is read; "either zeroes what was written", and past it nothing changes
 pub record ReadsBack (parcels rows places : List ℕ) (told : ToldRows) (rows' places' : List ℕ) : Type 0 where

@@ -9,13 +9,6 @@ ghost use Rattle.reading.specs.Walk.{Wiped, WalksBack};
 use refusals::{Refusal, Verdict};
 use rows::ROW_WIDTH;
 
-// How many rows were read, or why none.
-#[derive(Clone, Copy)]
-pub enum Back {
-    Rows(u64),
-    Refused(Refusal),
-}
-
 // The answer in numbers: 0 and the rows read; or a refusal's number with its details and no rows.
 #[repr(C)]
 #[derive(Clone, Copy)]
@@ -28,36 +21,34 @@ pub struct ToldRows {
     pub spare: u32,
 }
 
-impl Back {
-    // The answer in numbers.
-    pub fn told(self) -> ToldRows
-        ensures { result ≡ told_back self }
-    {
-        match self {
-            Back::Rows(rows) => ToldRows {
-                rows,
-                first: 0,
-                second: 0,
-                third: 0,
-                number: 0,
+// How many rows were read, or why none, in numbers.
+pub fn told(back: Result<u64, Refusal>) -> ToldRows
+    ensures { result ≡ told_back back }
+{
+    match back {
+        Ok(rows) => ToldRows {
+            rows,
+            first: 0,
+            second: 0,
+            third: 0,
+            number: 0,
+            spare: 0,
+        },
+        Err(refusal) => {
+            let told = refusal.told();
+            ToldRows {
+                rows: 0,
+                first: told.first,
+                second: told.second,
+                third: told.third,
+                number: told.number,
                 spare: 0,
-            },
-            Back::Refused(refusal) => {
-                let told = refusal.told();
-                ToldRows {
-                    rows: 0,
-                    first: told.first,
-                    second: told.second,
-                    third: told.third,
-                    number: told.number,
-                    spare: 0,
-                }
             }
         }
     }
 }
 
-// How many rows stand in the lent slices, and whether they are all.
+// How many rows stand in the lent slices, and whether they are all: the count is wanted with a refusal too, which wipes so many.
 #[derive(Clone, Copy)]
 struct Walk {
     done: usize,
@@ -68,8 +59,7 @@ struct Walk {
 fn room_of(numbers: usize, places: usize) -> usize
     ensures { result ≡ min (numbers / row_width) places }
 {
-    let whole = numbers / ROW_WIDTH;
-    if whole < places { whole } else { places }
+    (numbers / ROW_WIDTH).min(places)
 }
 
 // The first n rows and the first n places are zero.
@@ -77,13 +67,8 @@ fn wipe(rows: &mut [u32], places: &mut [u64], n: usize)
     requires { (n * row_width ≤ length rows.old) × (n ≤ length places.old) }
     ensures { Wiped rows.old (n * row_width) rows.new × Wiped places.old n places.new }
 {
-    let zeros = [0u32; 17];
-    let mut i = 0;
-    while i < n {
-        stores::put_row(rows, i * ROW_WIDTH, &zeros);
-        places[i] = 0;
-        i += 1;
-    }
+    rows[..n * ROW_WIDTH].fill(0);
+    places[..n].fill(0);
 }
 
 // The rows in turn, each with its place, until the parcels end, start no known form, or the room is full.
@@ -94,44 +79,40 @@ fn read_rows(parcels: &[u16], rows: &mut [u32], places: &mut [u64]) -> Walk
     let mut at = 0;
     let mut done = 0;
     while at < parcels.len() {
-        let known = known::known_at(parcels, at);
-        let row = known.row;
-        let size = known.parcels;
-        if size == 0 {
+        let Some(known) = known::known_at(parcels, at) else {
             return Walk {
                 done,
-                verdict: Verdict::Refused(Refusal::UnknownForm(at as u64)),
+                verdict: Err(Refusal::UnknownForm(at as u64)),
             };
-        }
+        };
         if done == room {
             return Walk {
                 done,
-                verdict: Verdict::Refused(Refusal::NoRoomForRows(room as u64)),
+                verdict: Err(Refusal::NoRoomForRows(room as u64)),
             };
         }
-        stores::put_row(rows, done * ROW_WIDTH, &row);
+        stores::put_row(rows, done * ROW_WIDTH, &known.row);
         places[done] = at as u64;
         done += 1;
-        at += size as usize;
+        at += known.parcels;
     }
     Walk {
         done,
-        verdict: Verdict::Good,
+        verdict: Ok(()),
     }
 }
 
 // Parcels read back into rows in the lent slices, with the parcel at which each starts. A refusal leaves zeros where rows and places were written.
-pub fn read_back(parcels: &[u16], rows: &mut [u32], places: &mut [u64]) -> Back
+pub fn read_back(parcels: &[u16], rows: &mut [u32], places: &mut [u64]) -> Result<u64, Refusal>
     ensures { ReadsBack parcels.now rows.old places.old (told_back result) rows.new places.new }
 {
     let walk = read_rows(parcels, rows, places);
     let done = walk.done;
-    let verdict = walk.verdict;
-    match verdict {
-        Verdict::Good => Back::Rows(done as u64),
-        Verdict::Refused(refusal) => {
+    match walk.verdict {
+        Ok(()) => Ok(done as u64),
+        Err(refusal) => {
             wipe(rows, places, done);
-            Back::Refused(refusal)
+            Err(refusal)
         }
     }
 }

@@ -10,8 +10,8 @@ use borrow.Author.Tests.{ne_eqb, lt-ltb}
 use Rattle.refusals.specs.declared.Told.{Told}
 use Rattle.refusals.specs.declared.Refusal.{Refusal}
 use Rattle.refusals.specs.declared.Refusal.TheVariants.{RowSlice, Row, InvalidUniversalRegister, InvalidDmIndex, InvalidDmModifier, UnsupportedPostModifyRegister, Dag1StoreSource, BranchOutOfRange, CallTargetOutOfRange, DuplicateLabel, UndefinedLabel, InvalidPmIndex, InvalidPmModifier, MixedDag, SameDagRegister, NotACompute, MultifunctionOperand, DuplicateDestination, LoopCountZero, LoopOutOfRange, EmptyLoop, UnclosedLoop, UnmatchedLoopEnd, SharedLoopEnd, LoopTailNotFullWidth, BranchInLoop, LabelInLoop, NoRoomForParcels, NoRoomForLabels, NoRoomForJumps, NoRoomForLoops, BrokenSlot, NoRoomForBytes, UnknownForm, NoRoomForRows}
-use Rattle.refusals.specs.declared.Answer.{Answer}
-use Rattle.refusals.specs.declared.Answer.TheVariants as answer
+use Rattle.std.specs.Prelude.{Ok, Err}
+use Rattle.refusals.specs.Answers.{Answer}
 use Rattle.refusals.specs.Numbers.{told_of, in_row, answered}
 use Rattle.refusals.proofs.Numbered.{numbers, over}
 
@@ -110,15 +110,17 @@ over_zero : (r : Refusal) → eqb (told_of r).number 0 ≡ false
 over_zero r = let h = over r in ne_eqb (told_of r).number 0 (λ (e : (told_of r).number ≡ 0). omega arith)
 
 abbrev pub answer_from : Told → Answer
-answer_from t = cond (eqb t.number 0) (answer.Accepted t.count) (answer.Refused (refusal_from t) (nat_abs t.third))
+answer_from t = cond (eqb t.number 0) (Ok t.count) (Err (record { why = (refusal_from t); row = (nat_abs t.third) }))
 
 -- the row tells nothing of the refusal
 told-alone : (r : Refusal) (row : ℕ) → refusal_from (in_row row (told_of r)) ≡ refusal_from (told_of r)
 told-alone r row = refl
 
 pub answer-told : (a : Answer) → (answered a).number < 34 → answer_from (answered a) ≡ a
-answer-told (answer.Accepted n) h = refl
-answer-told (answer.Refused r row) h = rw (over_zero r) (ap (λ (r : Refusal). answer.Refused r row) (told-alone r row ∙ refusal_told r (below r h)))
+answer-told (Ok n) h = refl
+answer-told (Err e) h =
+    rw (over_zero e.why)
+    (ap (λ (r : Refusal). let a : Answer = Err (record { why = r; row = e.row }) in a) (told-alone e.why e.row ∙ refusal_told e.why (below e.why h)))
 
 -- two refusals, or two answers, that tell the same are the same; 34 to 36 apart, whose detail has a largest value
 pub refusals-apart : (r r' : Refusal) → (told_of r).number < 34 → told_of r ≡ told_of r' → r ≡ r'

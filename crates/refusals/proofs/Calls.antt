@@ -4,8 +4,8 @@ use mathlib.Core.Bool.{true, true≢false}
 use mathlib.Core.List.{◌∷◌}
 use Prim.Native.Nat.{ℕ}
 use Rattle.refusals.specs.declared.Told.{Told}
-use Rattle.refusals.specs.declared.Verdict.{Verdict}
-use Rattle.refusals.specs.declared.Verdict.TheVariants.{Good, Refused}
+use Rattle.std.specs.Prelude.{Ok, Err}
+use Rattle.refusals.specs.Answers.{Verdict}
 use Rattle.refusals.specs.Numbers.{among, answer_in, answered}
 use Rattle.refusals.specs.Calls.{Call, one_instruction, build, parcel_count, instruction_count, slot_check, parcel_bytes, reads_back, widen, numbers_of, Listed}
 use Rattle.refusals.proofs.Numbered.{numbers}
@@ -30,8 +30,8 @@ never-three call {n} listed e = true≢false (sym (subst (λ (m : ℕ). among (0
 
 -- ---- a call answers what its verdict tells, whatever row that names and whatever is counted
 answer-tells : (call : Call) (row : ℕ) (v : Verdict) (n : ℕ) → Tells (numbers_of call) v → Listed call (answered (answer_in row v n)).number
-answer-tells call row Good n h = refl
-answer-tells call row (Refused r) n h = h
+answer-tells call row (Ok _) n h = refl
+answer-tells call row (Err r) n h = h
 
 pub answer-listed : (call : Call) (row : ℕ) (v : Verdict) (n : ℕ) {t : Told} → t ≡ answered (answer_in row v n) → Tells (numbers_of call) v → Listed call t.number
 answer-listed call row v n e h = subst (λ (t : Told). Listed call t.number) (sym e) (answer-tells call row v n h)

@@ -9,10 +9,8 @@ use lib.IntN.{ℤ, pos}
 use Rattle.refusals.specs.declared.Told.{Told}
 use Rattle.refusals.specs.declared.Refusal.{Refusal}
 use Rattle.refusals.specs.declared.Refusal.TheVariants.{RowSlice, Row, InvalidUniversalRegister, InvalidDmIndex, InvalidDmModifier, UnsupportedPostModifyRegister, Dag1StoreSource, BranchOutOfRange, CallTargetOutOfRange, DuplicateLabel, UndefinedLabel, InvalidPmIndex, InvalidPmModifier, MixedDag, SameDagRegister, NotACompute, MultifunctionOperand, DuplicateDestination, LoopCountZero, LoopOutOfRange, EmptyLoop, UnclosedLoop, UnmatchedLoopEnd, SharedLoopEnd, LoopTailNotFullWidth, BranchInLoop, LabelInLoop, NoRoomForParcels, NoRoomForLabels, NoRoomForJumps, NoRoomForLoops, BrokenSlot, NoRoomForBytes, UnknownForm, NoRoomForRows}
-use Rattle.refusals.specs.declared.Answer.{Answer}
-use Rattle.refusals.specs.declared.Answer.TheVariants as answer
-use Rattle.refusals.specs.declared.Verdict.{Verdict}
-use Rattle.refusals.specs.declared.Verdict.TheVariants as verdict
+use Rattle.std.specs.Prelude.{Ok, Err}
+use Rattle.refusals.specs.Answers.{Answer, Verdict}
 use Rattle.refusals.specs.Numbers.{two, named, told_of, in_row, answer_in, answered, among, naming}
 
 -- the numbers of the table
@@ -94,19 +92,19 @@ without_row row r =
     let t = told_of r in
     ap (λ (z : ℤ). record { number = t.number; count = t.count; first = t.first; second = t.second; third = z; start = t.start; length = t.length }) (sym (numbered r).rowless)
 
-pub zero_accepts : (a : Answer) → (answered a).number ≡ 0 → (n : ℕ) × (a ≡ answer.Accepted n)
-zero_accepts (answer.Accepted n) e = (n, refl)
-zero_accepts (answer.Refused r row) e = let h = over r in absurd (omega arith)
+pub zero_accepts : (a : Answer) → (answered a).number ≡ 0 → (n : ℕ) × (a ≡ Ok n)
+zero_accepts (Ok n) h = (n, refl)
+zero_accepts (Err e) h = let g = over e.why in absurd (omega arith)
 
-pub zero_good : (v : Verdict) → (checked v).number ≡ 0 → v ≡ verdict.Good
-zero_good verdict.Good e = refl
-zero_good (verdict.Refused r) e = let h = over r in absurd (omega arith)
+pub zero_good : (v : Verdict) → (checked v).number ≡ 0 → v ≡ Ok tt
+zero_good (Ok _) e = refl
+zero_good (Err r) e = let h = over r in absurd (omega arith)
 
 -- so a call answers 0 exactly where its verdict is good
-pub answers_zero : (row : ℕ) (v : Verdict) (n : ℕ) → ((answered (answer_in row v n)).number ≡ 0) ↔ (v ≡ verdict.Good)
-answers_zero row verdict.Good n = ((λ e. refl), (λ e. refl))
-answers_zero row (verdict.Refused r) n = ((λ e. zero_good (verdict.Refused r) e), (λ e. ap (λ (v : Verdict). (checked v).number) e))
+pub answers_zero : (row : ℕ) (v : Verdict) (n : ℕ) → ((answered (answer_in row v n)).number ≡ 0) ↔ (v ≡ Ok tt)
+answers_zero row (Ok _) n = ((λ e. refl), (λ e. refl))
+answers_zero row (Err r) n = ((λ e. zero_good (Err r) e), (λ e. ap (λ (v : Verdict). (checked v).number) e))
 
 pub unnamed-answer : (a : Answer) → among naming (answered a).number ≡ false → ((answered a).start ≡ 0) × ((answered a).length ≡ 0)
-unnamed-answer (answer.Accepted n) f = (refl, refl)
-unnamed-answer (answer.Refused r row) f = (numbered r).unnamed f
+unnamed-answer (Ok n) f = (refl, refl)
+unnamed-answer (Err e) f = (numbered e.why).unnamed f

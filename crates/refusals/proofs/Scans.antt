@@ -5,8 +5,8 @@ use Prim.Native.Nat.{ℕ, zero, suc, ◌+◌, ◌≤◌, ◌<◌}
 use native.Mathlib.Omega.{arith}
 use native.Mathlib.Nat.{eq-or-lt_of_le}
 use Rattle.refusals.specs.declared.Refusal.{Refusal}
-use Rattle.refusals.specs.declared.Verdict.{Verdict}
-use Rattle.refusals.specs.declared.Verdict.TheVariants.{Good, Refused}
+use Rattle.std.specs.Prelude.{Ok, Err}
+use Rattle.refusals.specs.Answers.{Verdict}
 use Rattle.refusals.specs.Order.{or_else, first_of, passing}
 use Rattle.refusals.specs.Scan.{first_end, scan_at, scan_chk, scan_end, all_scan, scan_end_lem}
 use Rattle.refusals.proofs.Order.{AllPass, StopsAt, either, all_first, all-passing, stop-first, stop-passing}
@@ -15,14 +15,14 @@ module _ {X : Type 0} (chk : ℕ → X → Verdict) (nxt : ℕ → X → X) (x�
   abbrev pub said : ℕ → Verdict
   said q = chk q (scan_at chk nxt x₀ q)
 
-  pub scan_stop : (f i e : ℕ) {r : Refusal} → i ≤ e → e < i + f → ((q : ℕ) → i ≤ q → q < e → said q ≡ Good) → said e ≡ Refused r
-      → (scan_chk chk nxt x₀ f i ≡ Refused r) × (scan_end chk nxt x₀ f i ≡ e)
+  pub scan_stop : (f i e : ℕ) {r : Refusal} → i ≤ e → e < i + f → ((q : ℕ) → i ≤ q → q < e → said q ≡ Ok tt) → said e ≡ Err r
+      → (scan_chk chk nxt x₀ f i ≡ Err r) × (scan_end chk nxt x₀ f i ≡ e)
   scan_stop zero i e h g all c = absurd (omega arith)
   scan_stop (suc f) i e {r} h g all c =
       ⊎_elim
-      (λ z. let y : said i ≡ Refused r = subst (λ (q : ℕ). said q ≡ Refused r) (sym z) c in (ap (λ (v : Verdict). or_else v (scan_chk chk nxt x₀ f (suc i))) y, ap (λ (v : Verdict). first_end v i (scan_end chk nxt x₀ f (suc i))) y ∙ z))
+      (λ z. let y : said i ≡ Err r = subst (λ (q : ℕ). said q ≡ Err r) (sym z) c in (ap (λ (v : Verdict). or_else v (scan_chk chk nxt x₀ f (suc i))) y, ap (λ (v : Verdict). first_end v i (scan_end chk nxt x₀ f (suc i))) y ∙ z))
       (λ lt.
-      let y : said i ≡ Good = all i (omega arith) lt in
+      let y : said i ≡ Ok tt = all i (omega arith) lt in
       let t = scan_stop f (suc i) e lt (omega arith) (λ q u v. all q (omega arith) v) c in
       (ap (λ (v : Verdict). or_else v (scan_chk chk nxt x₀ f (suc i))) y ∙ t.0, ap (λ (v : Verdict). first_end v i (scan_end chk nxt x₀ f (suc i))) y ∙ t.1))
       (eq-or-lt_of_le h)
@@ -32,8 +32,8 @@ module _ {X : Type 0} (chk : ℕ → X → Verdict) (nxt : ℕ → X → X) (x�
   scan_low (suc f) i = go (scan_low f (suc i)) (said i)
     where
       go : scan_end chk nxt x₀ f (suc i) ≤ suc i + f → (v : Verdict) → first_end v i (scan_end chk nxt x₀ f (suc i)) ≤ i + suc f
-      go h Good = omega arith
-      go h (Refused q) = omega arith
+      go h (Ok _) = omega arith
+      go h (Err q) = omega arith
 
 -- a walk whose checks do not look at what it has: the first that fails, and its row
 module _ {X : Type 0} (f : ℕ → Verdict) (nxt : ℕ → X → X) (x : X) (n : ℕ) where

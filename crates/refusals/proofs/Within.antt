@@ -6,21 +6,21 @@ use Prim.Native.Nat.{ℕ, zero, suc}
 use lib.Dec.{eqb}
 use borrow.Author.Tests.{eqb-true}
 use Rattle.refusals.specs.declared.Refusal.{Refusal}
-use Rattle.refusals.specs.declared.Verdict.{Verdict}
-use Rattle.refusals.specs.declared.Verdict.TheVariants.{Good, Refused}
+use Rattle.std.specs.Prelude.{Ok, Err}
+use Rattle.refusals.specs.Answers.{Verdict}
 use Rattle.refusals.specs.Numbers.{among}
 use Rattle.refusals.specs.Order.{when, or_else, first, first_of}
 use Rattle.refusals.proofs.Numbered.{checked}
 
 -- ---- what holds of a good verdict, and of each refusal of an order, holds of what the order comes to
-module _ (P : Verdict → Type 0) (good : P Good) where
-  pub holds-when : (b : Bool) (r : Refusal) → P (Refused r) → P (when b r)
+module _ (P : Verdict → Type 0) (good : P (Ok tt)) where
+  pub holds-when : (b : Bool) (r : Refusal) → P (Err r) → P (when b r)
   holds-when true r h = h
   holds-when false r h = good
 
   pub holds-or_else : (v w : Verdict) → P v → P w → P (or_else v w)
-  holds-or_else Good w h k = k
-  holds-or_else (Refused r) w h k = h
+  holds-or_else (Ok _) w h k = k
+  holds-or_else (Err r) w h k = h
 
   abbrev pub Each : List Verdict → Type 0
   Each [] = Unit {0}
@@ -42,7 +42,7 @@ module _ (ns : List ℕ) where
   abbrev pub AllTell : List Verdict → Type 0
   AllTell vs = Each (Tells ns) refl vs
 
-  pub tells-when : (b : Bool) (r : Refusal) → Tells ns (Refused r) → Tells ns (when b r)
+  pub tells-when : (b : Bool) (r : Refusal) → Tells ns (Err r) → Tells ns (when b r)
   tells-when b r h = holds-when (Tells ns) refl b r h
 
   pub tells-or_else : (v w : Verdict) → Tells ns v → Tells ns w → Tells ns (or_else v w)

@@ -1,12 +1,8 @@
 -- Document 01, "Refusal numbers": the number, the two details and the name's range of each refusal; document 02, wish 3: the row as a third
 -- detail; and answers in these numbers.
-use Rattle.std.specs.Prelude.{Bool, false, ◌||◌, List, [], ◌∷◌, ℕ, min, ℤ, pos, eqb}
+use Rattle.std.specs.Prelude.{Bool, false, ◌||◌, List, [], ◌∷◌, ℕ, min, ℤ, pos, eqb, Ok, Err}
 use Rattle.refusals.specs.declared.Told.{Told}
-use Rattle.refusals.specs.declared.Answer.{Answer}
-use Rattle.refusals.specs.declared.Answer.TheVariants as answer
-use Rattle.refusals.specs.declared.Verdict.{Verdict}
-use Rattle.refusals.specs.declared.Verdict.TheVariants as verdict
-use Rattle.refusals.specs.declared.Judged.{Judged}
+use Rattle.refusals.specs.Answers.{Answer, Verdict, Judged}
 use Rattle.refusals.specs.declared.Refusal.{Refusal}
 use Rattle.refusals.specs.declared.Refusal.TheVariants.{RowSlice, Row, InvalidUniversalRegister, InvalidDmIndex, InvalidDmModifier, UnsupportedPostModifyRegister, Dag1StoreSource, BranchOutOfRange, CallTargetOutOfRange, DuplicateLabel, UndefinedLabel, InvalidPmIndex, InvalidPmModifier, MixedDag, SameDagRegister, NotACompute, MultifunctionOperand, DuplicateDestination, LoopCountZero, LoopOutOfRange, EmptyLoop, UnclosedLoop, UnmatchedLoopEnd, SharedLoopEnd, LoopTailNotFullWidth, BranchInLoop, LabelInLoop, NoRoomForParcels, NoRoomForLabels, NoRoomForJumps, NoRoomForLoops, BrokenSlot, NoRoomForBytes, UnknownForm, NoRoomForRows}
 
@@ -71,8 +67,8 @@ told_of (NoRoomForRows room) = one 36 (pos (min room most))
 
 -- the answer where a count was made, or a refusal that names a row
 abbrev pub answer_in : ℕ → Verdict → ℕ → Answer
-answer_in row verdict.Good n = answer.Accepted n
-answer_in row (verdict.Refused r) n = answer.Refused r row
+answer_in row (Ok _) n = Ok n
+answer_in row (Err r) n = Err (record { why = r; row = row })
 
 abbrev pub answer_of : Judged → ℕ → Answer
 answer_of j n = answer_in j.row j.verdict n
@@ -83,8 +79,8 @@ in_row row t = record { number = t.number; count = t.count; first = t.first; sec
 
 -- "A build answers 0 and the parcel count, or a refusal with count 0"
 abbrev pub answered : Answer → Told
-answered (answer.Accepted n) = counted n
-answered (answer.Refused r row) = in_row row (told_of r)
+answered (Ok n) = counted n
+answered (Err e) = in_row e.row (told_of e.why)
 
 -- the number is one of these
 abbrev pub among : List ℕ → ℕ → Bool

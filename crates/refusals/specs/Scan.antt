@@ -1,15 +1,14 @@
 -- A fold with checks, for any state: rows in turn, up to the first whose check fails.
-use Rattle.std.specs.Prelude.{◌≡◌, refl, ℕ, zero, suc, ◌+◌, ◌-◌, ◌≤◌, ◌<◌}
+use Rattle.std.specs.Prelude.{◌≡◌, refl, ℕ, zero, suc, ◌+◌, ◌-◌, ◌≤◌, ◌<◌, Ok, Err}
 use Rattle.std.proofs.Common.{sym, ap, ◌∙◌, subst, ⊎_elim, arith, add-one, eq-or-lt_of_le}
 use Rattle.std.proofs.Math.Nat.{sub-zero}
 use Rattle.refusals.specs.declared.Refusal.{Refusal}
-use Rattle.refusals.specs.declared.Verdict.{Verdict}
-use Rattle.refusals.specs.declared.Verdict.TheVariants.{Good, Refused}
+use Rattle.refusals.specs.Answers.{Verdict}
 use Rattle.refusals.specs.Order.{or_else}
 
 abbrev pub first_end : Verdict → ℕ → ℕ → ℕ
-first_end Good i rest = rest
-first_end (Refused r) i rest = i
+first_end (Ok _) i rest = rest
+first_end (Err r) i rest = i
 
 module _ {X : Type 0} (chk : ℕ → X → Verdict) (nxt : ℕ → X → X) (x₀ : X) where
   abbrev pub scan_at : ℕ → X
@@ -17,7 +16,7 @@ module _ {X : Type 0} (chk : ℕ → X → Verdict) (nxt : ℕ → X → X) (x�
   scan_at (suc i) = nxt i (scan_at i)
 
   abbrev pub scan_chk : ℕ → ℕ → Verdict
-  scan_chk zero i = Good
+  scan_chk zero i = Ok tt
   scan_chk (suc k) i = or_else (chk i (scan_at i)) (scan_chk k (suc i))
 
   abbrev pub scan_end : ℕ → ℕ → ℕ
@@ -46,9 +45,9 @@ module _ {X : Type 0} (chk : ℕ → X → Verdict) (nxt : ℕ → X → X) (x�
     at_chk : chk i (scan_at i) ≡ chk i x
     at_chk = ap (λ (y : X). chk i y) (sym g.here)
 
-    pub going_next : i < n → chk i x ≡ Good → {y : X} → y ≡ nxt i x → Going n (i + 1) y
+    pub going_next : i < n → chk i x ≡ Ok tt → {y : X} → y ≡ nxt i x → Going n (i + 1) y
     going_next h c e =
-        let q : chk i (scan_at i) ≡ Good = at_chk ∙ c in
+        let q : chk i (scan_at i) ≡ Ok tt = at_chk ∙ c in
         record {
           within = omega arith;
           here = e ∙ ap (λ (y : X). nxt i y) g.here ∙ ap (λ (y : ℕ). scan_at y) (sym (add-one i));
@@ -56,33 +55,33 @@ module _ {X : Type 0} (chk : ℕ → X → Verdict) (nxt : ℕ → X → X) (x�
           end = rw add-one (sym (rw (peel n i h, q) at (sym g.end)));
         }
 
-    pub going_stop : i < n → {r : Refusal} → chk i x ≡ Refused r → {y : X} → y ≡ x → Came n (Refused r) i y
+    pub going_stop : i < n → {r : Refusal} → chk i x ≡ Err r → {y : X} → y ≡ x → Came n (Err r) i y
     going_stop h {r} c e =
-        let q : chk i (scan_at i) ≡ Refused r = at_chk ∙ c in
+        let q : chk i (scan_at i) ≡ Err r = at_chk ∙ c in
         let z : scan_end n 0 ≡ i = sym g.end ∙ rw (peel n i h, q) in
         record { outcome = sym (sym g.outcome ∙ rw (peel n i h, q)); end = sym z; here = e ∙ g.here ∙ ap (λ (y : ℕ). scan_at y) (sym z) }
 
-    pub going_end : n ≤ i → Came n Good i x
+    pub going_end : n ≤ i → Came n (Ok tt) i x
     going_end h =
         let e : n - i ≡ 0 = omega arith in
         let z : scan_end n 0 ≡ i = sym g.end ∙ rw e in
         record { outcome = sym (sym g.outcome ∙ rw e); end = sym z; here = g.here ∙ ap (λ (y : ℕ). scan_at y) (sym z) }
 
-  first_good : (c d : Verdict) → or_else c d ≡ Good → (c ≡ Good) × (d ≡ Good)
-  first_good Good d e = (refl, e)
-  first_good (Refused r) d e = let z : ◌≡◌ {A = ℕ} 0 1 = cc in absurd (omega arith)
+  first_good : (c d : Verdict) → or_else c d ≡ Ok tt → (c ≡ Ok tt) × (d ≡ Ok tt)
+  first_good (Ok _) d e = (refl, e)
+  first_good (Err r) d e = let z : ◌≡◌ {A = ℕ} 0 1 = cc in absurd (omega arith)
 
-  pub scan_all : (f i : ℕ) → scan_chk f i ≡ Good → (q : ℕ) → i ≤ q → q < i + f → chk q (scan_at q) ≡ Good
+  pub scan_all : (f i : ℕ) → scan_chk f i ≡ Ok tt → (q : ℕ) → i ≤ q → q < i + f → chk q (scan_at q) ≡ Ok tt
   scan_all zero i e q u v = absurd (omega arith)
   scan_all (suc f) i e q u v =
       let g = first_good (chk i (scan_at i)) (scan_chk f (suc i)) e in
-      ⊎_elim (λ z. subst (λ (y : ℕ). chk y (scan_at y) ≡ Good) z g.0) (λ lt. scan_all f (suc i) g.1 q lt (omega arith)) (eq-or-lt_of_le u)
+      ⊎_elim (λ z. subst (λ (y : ℕ). chk y (scan_at y) ≡ Ok tt) z g.0) (λ lt. scan_all f (suc i) g.1 q lt (omega arith)) (eq-or-lt_of_le u)
 
-  pub all_scan : (f i : ℕ) → ((q : ℕ) → i ≤ q → q < i + f → chk q (scan_at q) ≡ Good) → scan_chk f i ≡ Good
+  pub all_scan : (f i : ℕ) → ((q : ℕ) → i ≤ q → q < i + f → chk q (scan_at q) ≡ Ok tt) → scan_chk f i ≡ Ok tt
   all_scan zero i all = refl
   all_scan (suc f) i all = rw (all i (omega arith) (omega arith)) (all_scan f (suc i) (λ q u v. all q (omega arith) (omega arith)))
 
-  pub scan_end_lem : (f i : ℕ) → scan_chk f i ≡ Good → scan_end f i ≡ i + f
+  pub scan_end_lem : (f i : ℕ) → scan_chk f i ≡ Ok tt → scan_end f i ≡ i + f
   scan_end_lem zero i e = omega arith
   scan_end_lem (suc f) i e =
       let g = first_good (chk i (scan_at i)) (scan_chk f (suc i)) e in

@@ -56,25 +56,17 @@ pub enum Refusal {
 }
 
 // Whether something is in order, or why it is refused.
-#[derive(Clone, Copy)]
-pub enum Verdict {
-    Good,
-    Refused(Refusal),
-}
+pub type Verdict = Result<(), Refusal>;
 
-// A verdict, and the row that it names if it is a refusal.
+// Why something is refused, and the row that this names; 0 if it names none.
 #[derive(Clone, Copy)]
-pub struct Judged {
-    pub verdict: Verdict,
+pub struct Refused {
+    pub why: Refusal,
     pub row: u32,
 }
 
-// What a call on a list answers: a count, or why the list is refused and the row that this names; 0 if it names none.
-#[derive(Clone, Copy)]
-pub enum Answer {
-    Accepted(u32),
-    Refused(Refusal, u32),
-}
+// What a call on a list answers: a count, or why the list is refused.
+pub type Answer = Result<u32, Refused>;
 
 // An answer in numbers: 0 and a count; or a refusal's number with count 0, its two details, the row that it names, and its name's range in
 // the lent names (0, 0 where it has none).
@@ -111,13 +103,8 @@ impl Told {
         ensures { result ≡ one number first }
     {
         Told {
-            number,
-            count: 0,
             first,
-            second: 0,
-            third: 0,
-            start: 0,
-            length: 0,
+            ..Told::alone(number)
         }
     }
 
@@ -125,26 +112,14 @@ impl Told {
     fn one(number: u32, first: u32) -> Told
         ensures { result ≡ one number (pos first) }
     {
-        Told {
-            number,
-            count: 0,
-            first: first as i64,
-            second: 0,
-            third: 0,
-            start: 0,
-            length: 0,
-        }
+        Told::signed(number, first as i64)
     }
 
     // A number with a length of what was lent, or a place in it.
     fn lent(number: u32, first: u64) -> Told
         ensures { result ≡ one number (pos (min first most)) }
     {
-        if first <= 0x7fff_ffff_ffff_ffff {
-            Told::signed(number, first as i64)
-        } else {
-            Told::signed(number, 0x7fff_ffff_ffff_ffff)
-        }
+        Told::signed(number, first.min(0x7fff_ffff_ffff_ffff) as i64)
     }
 
     // A number with two details.
@@ -152,13 +127,9 @@ impl Told {
         ensures { result ≡ two number (pos first) (pos second) }
     {
         Told {
-            number,
-            count: 0,
             first: first as i64,
             second: second as i64,
-            third: 0,
-            start: 0,
-            length: 0,
+            ..Told::alone(number)
         }
     }
 
@@ -167,13 +138,9 @@ impl Told {
         ensures { result ≡ named number start length }
     {
         Told {
-            number,
-            count: 0,
-            first: 0,
-            second: 0,
-            third: 0,
             start,
             length,
+            ..Told::alone(number)
         }
     }
 
@@ -182,13 +149,8 @@ impl Told {
         ensures { result ≡ counted count }
     {
         Told {
-            number: 0,
             count,
-            first: 0,
-            second: 0,
-            third: 0,
-            start: 0,
-            length: 0,
+            ..Told::alone(0)
         }
     }
 
@@ -197,13 +159,8 @@ impl Told {
         ensures { result ≡ in_row row self }
     {
         Told {
-            number: self.number,
-            count: self.count,
-            first: self.first,
-            second: self.second,
             third: row as i64,
-            start: self.start,
-            length: self.length,
+            ..self
         }
     }
 }
@@ -251,18 +208,12 @@ impl Refusal {
             Refusal::NoRoomForRows(first) => Told::lent(36, first),
         }
     }
-}
 
-impl Judged {
-    // The answer where a count was made.
-    pub fn answer(self, count: u32) -> Answer
-        ensures { result ≡ answer_of self count }
+    // The refusal, naming a row.
+    pub fn at(self, row: u32) -> Refused
+        ensures { result ≡ record { why = self; row = row } }
     {
-        let verdict = self.verdict;
-        match verdict {
-            Verdict::Good => Answer::Accepted(count),
-            Verdict::Refused(why) => Answer::Refused(why, self.row),
-        }
+        Refused { why: self, row }
     }
 }
 
@@ -271,10 +222,7 @@ pub fn answered(answer: Answer) -> Told
     ensures { result ≡ answered answer }
 {
     match answer {
-        Answer::Accepted(count) => Told::counted(count),
-        Answer::Refused(why, row) => {
-            let told = why.told();
-            told.in_row(row)
-        }
+        Ok(count) => Told::counted(count),
+        Err(refused) => refused.why.told().in_row(refused.row),
     }
 }

@@ -19,27 +19,29 @@ pub struct ModifyRegister(pub u8);
 #[derive(Clone, Copy)]
 pub struct UniversalRegister(pub u8);
 
-impl UniversalRegister {
-    // The universal code of a data register.
-    pub fn from_register(register: Register) -> UniversalRegister
-        ensures { result.0 ≡ register.0 }
-    {
+// The universal code of a data register.
+impl From<Register> for UniversalRegister {
+    ghost from_gives = { λ register code. code.0 ≡ register.0 };
+
+    fn from(register: Register) -> UniversalRegister {
         UniversalRegister(register.0)
     }
+}
 
-    // The universal code of an index register.
-    pub fn from_index(register: IndexRegister) -> UniversalRegister
-        requires { register.0 < 16 }
-        ensures { result.0 ≡ 0x10 + register.0 }
-    {
-        UniversalRegister(0x10 + register.0)
+// The universal code of an index register.
+impl From<IndexRegister> for UniversalRegister {
+    ghost from_gives = { λ register code. register.0 < 16 → code.0 ≡ 0x10 + register.0 };
+
+    fn from(register: IndexRegister) -> UniversalRegister {
+        UniversalRegister(register.0.wrapping_add(0x10))
     }
+}
 
-    // The universal code of a modify register.
-    pub fn from_modify(register: ModifyRegister) -> UniversalRegister
-        requires { register.0 < 16 }
-        ensures { result.0 ≡ 0x20 + register.0 }
-    {
-        UniversalRegister(0x20 + register.0)
+// The universal code of a modify register.
+impl From<ModifyRegister> for UniversalRegister {
+    ghost from_gives = { λ register code. register.0 < 16 → code.0 ≡ 0x20 + register.0 };
+
+    fn from(register: ModifyRegister) -> UniversalRegister {
+        UniversalRegister(register.0.wrapping_add(0x20))
     }
 }

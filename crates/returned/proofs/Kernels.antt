@@ -6,14 +6,14 @@ use mathlib.Core.Bool.{false}
 use mathlib.Core.List.{List, [], ◌∷◌, ◌++◌}
 use lib.ListN.{length, take, drop, length-drop}
 use lib.Seq.{take-append_seam, take-append-le, drop-append-le, length-take-le}
-use Rattle.refusals.specs.declared.Verdict.{Verdict}
-use Rattle.refusals.specs.declared.Verdict.TheVariants as verdict
+use Rattle.std.specs.Prelude.{Ok, Err}
+use Rattle.refusals.specs.Answers.{Verdict}
+use Rattle.coded.specs.Coded.{Coded}
 use Rattle.refusals.specs.declared.Told.{Told}
 use Rattle.encode.specs.Encoding.{jump_form, loop_form}
 use Rattle.bounds.specs.Tables.{at}
 use Rattle.rows.specs.Rows.{row_width}
-use Rattle.coded.specs.declared.Coded.{Coded}
-use Rattle.coded.specs.declared.Coded.TheVariants.{Instruction, Label, Jump, LoopBegin, LoopEnd, Refused}
+use Rattle.items.specs.declared.Item.TheVariants.{Instruction, Label, Jump, LoopBegin, LoopEnd}
 use Rattle.places.specs.Items.{Kernel, row_count, kernel_of, size, is_entry, place, entries, most_parcels}
 use Rattle.places.specs.Looking.{Found, labelled, closer}
 use Rattle.places.specs.Looking as looking
@@ -35,20 +35,20 @@ use Rattle.returned.proofs.Walk.{From, back_from}
 -- ---- what items leave are parcels
 module _ (k : Kernel) where
   left-parcels : (i : ℕ) (x : Coded) → Parcels (left k i x).parcels
-  left-parcels i (Instruction c) = form-parcels c.form
-  left-parcels i (Label a b) = no-parcels
-  left-parcels i (Jump c a b) = go (labelled k a b k.n)
+  left-parcels i (Ok (Instruction c)) = form-parcels c.form
+  left-parcels i (Ok (Label a b)) = no-parcels
+  left-parcels i (Ok (Jump c a b)) = go (labelled k a b k.n)
     where
       go : (f : Found) → Parcels (jump_parcels k.it c i f)
       go (looking.at l) = settled-parcels (jump_form c (jump_offset k.it l i) false)
       go looking.nothing = zero_parcels 3
-  left-parcels i (LoopBegin c m) = go (closer k.it k.n i)
+  left-parcels i (Ok (LoopBegin c m)) = go (closer k.it k.n i)
     where
       go : (f : Found) → Parcels (loop_parcels k.it c m i f)
       go (looking.at e) = settled-parcels (loop_form c m (loop_offset k.it e i))
       go looking.nothing = zero_parcels 3
-  left-parcels i LoopEnd = no-parcels
-  left-parcels i (Refused r) = no-parcels
+  left-parcels i (Ok LoopEnd) = no-parcels
+  left-parcels i (Err r) = no-parcels
 
   pub gather-parcels : (n : ℕ) → Parcels (gather (λ i. (left k i (k.it i)).parcels) n)
   gather-parcels zero = no-parcels
@@ -107,13 +107,13 @@ module _ (rows names : List ℕ) (lent : Lent) (t : Told) (x : Lent) (contract :
     walked =
         back_from rows names standing (room_in rows₀ places₀) enough (λ i h. parcels-drop (place it i) (gather emitted n) (gather-parcels k n)) n 0 (omega arith)
 
-    same : (reads.new_rows ≡ walked.rows') × (reads.new_places ≡ walked.places') × (reads.verdict ≡ verdict.Good)
+    same : (reads.new_rows ≡ walked.rows') × (reads.new_places ≡ walked.places') × (reads.verdict ≡ Ok tt)
     same =
         goes-only
         (subst (λ (ps : List ℕ). Goes (room_in rows₀ places₀) 0 0 ps reads.new_rows reads.new_places reads.verdict) parcels_are reads.goes) walked.goes
 
     -- number 0, and as many rows as items with parcels
-    pub kernel-told : told ≡ told_rows verdict.Good (entries it n)
+    pub kernel-told : told ≡ told_rows (Ok tt) (entries it n)
     kernel-told =
         let l = walked.long in
         reads.answer ∙ ap₂ told_rows same.2 (ap length same.1 ∙ (let z : length walked.places' ≡ entries it n = omega (arith, l) in z))

@@ -20,8 +20,9 @@ use Rattle.bounds.specs.Tables.{at}
 use Rattle.rows.specs.Fields.{condition_of}
 use Rattle.rows.specs.Rows.{row_width, read_of}
 use Rattle.coded.specs.declared.Coding.{Coding}
-use Rattle.coded.specs.declared.Coded.{Coded}
-use Rattle.coded.specs.declared.Coded.TheVariants.{Instruction, Label, Jump, LoopBegin, LoopEnd, Refused}
+use Rattle.std.specs.Prelude.{Ok, Err}
+use Rattle.coded.specs.Coded.{Coded}
+use Rattle.items.specs.declared.Item.TheVariants.{Instruction, Label, Jump, LoopBegin, LoopEnd}
 use Rattle.places.specs.Items.{Kernel, kernel_of, size, is_entry, place, address}
 use Rattle.places.specs.Left.{left}
 use Rattle.prefixes.proofs.Totals.{total-up}
@@ -55,12 +56,12 @@ module _ (rows names : List ℕ) where
     pub some : 1 ≤ length (emitted i)
 
   module _ (X : List ℕ) (rule1 : Rule1 k) (whole : (i : ℕ) → i < n → length (row rows i) ≡ row_width) (small : (i : ℕ) → i ≤ n → place it i < 2 ^ 31)
-      (jumps : (i : ℕ) (c : Condition) (a b : ℕ) → i < n → it i ≡ Jump c a b → JumpCarries k X i c a b)
-      (loops : (b : ℕ) (c : LoopCount) (m : LoopMode) → b < n → it b ≡ LoopBegin c m → LoopCarries k X b c m)
+      (jumps : (i : ℕ) (c : Condition) (a b : ℕ) → i < n → it i ≡ Ok (Jump c a b) → JumpCarries k X i c a b)
+      (loops : (b : ℕ) (c : LoopCount) (m : LoopMode) → b < n → it b ≡ Ok (LoopBegin c m) → LoopCarries k X b c m)
       (at_place : (i : ℕ) → i < n → take (size (it i)) (drop (place it i) X) ≡ emitted i) where
     -- an instruction
     stands-instruction :
-        (i : ℕ) (rest : List ℕ) (c : Coding) → i < n → it i ≡ Instruction c → Parcels (emitted i ++ rest) → Parcels rest → ((more : List ℕ) → rest ≡ 0x083f ∷ more → ⊥) → Stands i rest
+        (i : ℕ) (rest : List ℕ) (c : Coding) → i < n → it i ≡ Ok (Instruction c) → Parcels (emitted i ++ rest) → Parcels rest → ((more : List ℕ) → rest ≡ 0x083f ∷ more → ⊥) → Stands i rest
     stands-instruction i rest c h e p q t =
         let o = coded-instruction (read_of (row rows i) (length names)) c e in
         let own : emitted i ≡ form_parcels c.form = ap (λ (y : Coded). (left k i y).parcels) e in
@@ -79,7 +80,7 @@ module _ (rows names : List ℕ) where
 
     -- a jump to its label: the word of its condition over its offset
     stands-jump :
-        (i : ℕ) (rest : List ℕ) (c : Condition) (a b : ℕ) → i < n → it i ≡ Jump c a b → Parcels (emitted i ++ rest) → Parcels rest → ((more : List ℕ) → rest ≡ 0x083f ∷ more → ⊥) → Stands i rest
+        (i : ℕ) (rest : List ℕ) (c : Condition) (a b : ℕ) → i < n → it i ≡ Ok (Jump c a b) → Parcels (emitted i ++ rest) → Parcels rest → ((more : List ℕ) → rest ≡ 0x083f ∷ more → ⊥) → Stands i rest
     stands-jump i rest c a b h e p q t =
         let j = jumps i c a b h e in
         let z = pos (address it j.aimed.row) -ℤ pos (address it i) in
@@ -103,7 +104,7 @@ module _ (rows names : List ℕ) where
         }
 
     -- a loop start
-    stands-loop : (i : ℕ) (rest : List ℕ) (c : LoopCount) (m : LoopMode) → i < n → it i ≡ LoopBegin c m → Stands i rest
+    stands-loop : (i : ℕ) (rest : List ℕ) (c : LoopCount) (m : LoopMode) → i < n → it i ≡ Ok (LoopBegin c m) → Stands i rest
     stands-loop i rest c m h e =
         let l = loops i c m h e in
         let w = l.word.word in
@@ -127,9 +128,9 @@ module _ (rows names : List ℕ) where
     stand i rest h e p q t = go (it i) refl e
       where
         go : (x : Coded) → it i ≡ x → is_entry x ≡ 1 → Stands i rest
-        go (Instruction c) w f = stands-instruction i rest c h w p q t
-        go (Label a b) w f = absurd (omega (arith, f))
-        go (Jump c a b) w f = stands-jump i rest c a b h w p q t
-        go (LoopBegin c m) w f = stands-loop i rest c m h w
-        go LoopEnd w f = absurd (omega (arith, f))
-        go (Refused r) w f = absurd (omega (arith, f))
+        go (Ok (Instruction c)) w f = stands-instruction i rest c h w p q t
+        go (Ok (Label a b)) w f = absurd (omega (arith, f))
+        go (Ok (Jump c a b)) w f = stands-jump i rest c a b h w p q t
+        go (Ok (LoopBegin c m)) w f = stands-loop i rest c m h w
+        go (Ok LoopEnd) w f = absurd (omega (arith, f))
+        go (Err r) w f = absurd (omega (arith, f))

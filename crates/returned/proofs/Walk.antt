@@ -7,12 +7,12 @@ use mathlib.Core.Logic.{⊎_elim}
 use mathlib.Core.List.{List, [], ◌∷◌, ◌++◌}
 use lib.ListN.{length, take, drop, length-append, drop_of_length-le}
 use lib.Seq.{take-append_seam, drop-append_seam, drop-drop, drop-append-add}
-use Rattle.refusals.specs.declared.Verdict.{Verdict}
-use Rattle.refusals.specs.declared.Verdict.TheVariants as verdict
+use Rattle.std.specs.Prelude.{Ok, Err}
+use Rattle.refusals.specs.Answers.{Verdict}
+use Rattle.coded.specs.Coded.{Coded}
 use Rattle.bounds.specs.Tables.{at}
 use Rattle.rows.specs.Rows.{row_width}
-use Rattle.coded.specs.declared.Coded.{Coded}
-use Rattle.coded.specs.declared.Coded.TheVariants.{Instruction, Label, Jump, LoopBegin, LoopEnd, Refused}
+use Rattle.items.specs.declared.Item.TheVariants.{Instruction, Label, Jump, LoopBegin, LoopEnd}
 use Rattle.places.specs.Items.{Kernel, row_at, row_count, kernel_of, size, is_entry, place, entries}
 use Rattle.places.specs.Left.{left, gather}
 use Rattle.places.proofs.Emitted.{emits, place-emitted}
@@ -43,7 +43,7 @@ this_row : (r rs : List ℕ) → length r ≡ row_width → row (r ++ rs) 0 ≡ 
 this_row r rs e = ap (λ (k : ℕ). take k (r ++ rs)) (sym e) ∙ take-append_seam r rs
 
 -- what is read starts not as LeafReturn's third parcel
-not_third : (room place done : ℕ) (ps rs ls : List ℕ) (v : Verdict) → v ≡ verdict.Good → Goes room place done ps rs ls v → Parcels ps → (more : List ℕ) → ps ≡ 0x083f ∷ more → ⊥
+not_third : (room place done : ℕ) (ps rs ls : List ℕ) (v : Verdict) → v ≡ Ok tt → Goes room place done ps rs ls v → Parcels ps → (more : List ℕ) → ps ≡ 0x083f ∷ more → ⊥
 not_third room place done ps rs ls v g ended p more e = let z : ◌≡◌ {A = ℕ} 0 1 = cc in omega arith
 not_third room place done ps rs ls v g (strange f) p more e = let z : ◌≡◌ {A = ℕ} 0 1 = cc in omega arith
 not_third room place done ps rs ls v g (full f d) p more e = let z : ◌≡◌ {A = ℕ} 0 1 = cc in omega arith
@@ -67,7 +67,7 @@ module _ (rows names : List ℕ) (stand :
   pub record From (room i : ℕ) : Type 0 where
     pub rows' : List ℕ
     pub places' : List ℕ
-    pub goes : Goes room (place it i) (entries it i) (drop (place it i) (gather emitted n)) rows' places' verdict.Good
+    pub goes : Goes room (place it i) (entries it i) (drop (place it i) (gather emitted n)) rows' places' (Ok tt)
     pub long : entries it i + length places' ≡ entries it n
     pub wide : length rows' ≡ length places' * row_width
     pub each :
@@ -99,8 +99,8 @@ module _ (rows names : List ℕ) (stand :
         record {
           rows' = f.rows';
           places' = f.places';
-          goes = subst (λ (m : ℕ). Goes room (place it i) m (drop (place it i) (gather emitted n)) f.rows' f.places' verdict.Good) b
-              (subst (λ (m : ℕ). Goes room m (entries it (suc i)) (drop m (gather emitted n)) f.rows' f.places' verdict.Good) a f.goes);
+          goes = subst (λ (m : ℕ). Goes room (place it i) m (drop (place it i) (gather emitted n)) f.rows' f.places' (Ok tt)) b
+              (subst (λ (m : ℕ). Goes room m (entries it (suc i)) (drop m (gather emitted n)) f.rows' f.places' (Ok tt)) a f.goes);
           long = let l = f.long in omega (arith, l, b);
           wide = f.wide;
           each = λ j g l y. later j g l y;
@@ -121,9 +121,9 @@ module _ (rows names : List ℕ) (stand :
           rows' = s.back ++ f.rows';
           places' = place it i ∷ f.places';
           goes =
-              goes-next room (place it i) (entries it i) (size (it i)) (drop (place it i) (gather emitted n)) s.back f.rows' f.places' verdict.Good
+              goes-next room (place it i) (entries it i) (size (it i)) (drop (place it i) (gather emitted n)) s.back f.rows' f.places' (Ok tt)
               (rw (apart-at i h, length-append) (let u = s.some in omega (arith, u))) (subst (λ (l : List ℕ). Front l (front.known (size (it i)) s.back)) (sym (apart-at i h)) s.stands) room-left
-              (subst (λ (m : ℕ). Goes room (place it (suc i)) m (drop (size (it i)) (drop (place it i) (gather emitted n))) f.rows' f.places' verdict.Good) one
+              (subst (λ (m : ℕ). Goes room (place it (suc i)) m (drop (size (it i)) (drop (place it i) (gather emitted n))) f.rows' f.places' (Ok tt)) one
               (rw (past i h) f.goes));
           long = let l = f.long in omega (arith, l, e);
           wide = length-append s.back f.rows' ∙ ap₂ ◌+◌ s.wide f.wide ∙ omega arith;
@@ -136,7 +136,7 @@ module _ (rows names : List ℕ) (stand :
         s : Stands rows names i rest
         s =
             stand i rest h e (subst Parcels (apart-at i h) (small16 i (omega (arith, h)))) (small16 (suc i) h)
-            (not_third room (place it (suc i)) (entries it (suc i)) rest f.rows' f.places' verdict.Good refl f.goes (small16 (suc i) h))
+            (not_third room (place it (suc i)) (entries it (suc i)) rest f.rows' f.places' (Ok tt) refl f.goes (small16 (suc i) h))
 
         one : entries it (suc i) ≡ suc (entries it i)
         one = omega (arith, e)
@@ -178,12 +178,12 @@ module _ (rows names : List ℕ) (stand :
         none x w z e = over i h (ap size w ∙ z) (ap is_entry w ∙ e) f
 
         go : (x : Coded) → it i ≡ x → From room i
-        go (Instruction c) w = onward i h (ap is_entry w) f
-        go (Label a b) w = none (Label a b) w refl refl
-        go (Jump c a b) w = onward i h (ap is_entry w) f
-        go (LoopBegin c m) w = onward i h (ap is_entry w) f
-        go LoopEnd w = none LoopEnd w refl refl
-        go (Refused r) w = none (Refused r) w refl refl
+        go (Ok (Instruction c)) w = onward i h (ap is_entry w) f
+        go (Ok (Label a b)) w = none (Ok (Label a b)) w refl refl
+        go (Ok (Jump c a b)) w = onward i h (ap is_entry w) f
+        go (Ok (LoopBegin c m)) w = onward i h (ap is_entry w) f
+        go (Ok LoopEnd) w = none (Ok LoopEnd) w refl refl
+        go (Err r) w = none (Err r) w refl refl
 
     pub back_from : (j i : ℕ) → i + j ≡ n → From room i
     back_from zero i e = subst (From room) (let z : n ≡ i = omega (arith, e) in z) end

@@ -1,3 +1,4 @@
 pub mod Writing
 pub mod Again
 pub mod Samples
+pub mod Backward

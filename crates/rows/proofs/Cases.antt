@@ -7,60 +7,54 @@ use mathlib.Core.Path.{◌≡◌, refl}
 use borrow.Author.Tests.{leb-true}
 use lib.Dec.{eqb}
 use Rattle.bounds.specs.Tables.{at}
-use Rattle.bounds.specs.Checks.{check_of, places_of, decided, name_inside, inside}
-use Rattle.bounds.specs.declared.Places.{Places}
-use Rattle.bounds.specs.declared.Places.TheVariants.{Fine, Bad, Code}
-use Rattle.computes.specs.declared.Made.{Made}
-use Rattle.computes.specs.declared.Made.TheVariants as made
+use Rattle.bounds.specs.Checks.{Places, check_of, places_of, decided, name_inside, inside}
+use Rattle.std.specs.Prelude.{Ok, Err, Result, Option}
+use Rattle.items.specs.declared.Compute.{Compute}
+use Rattle.items.specs.declared.Item.{Item}
 use Rattle.refusals.specs.declared.Refusal.{Refusal}
 use Rattle.items.specs.declared.DataAccess.{DataAccess}
 use Rattle.items.specs.declared.MemoryAccess.{MemoryAccess}
 use Rattle.items.specs.declared.VisaInstruction.{VisaInstruction}
 use Rattle.items.specs.declared.Item.TheVariants as item
-use Rattle.rows.specs.declared.Beside.{Beside}
-use Rattle.rows.specs.declared.Beside.TheVariants as beside
-use Rattle.rows.specs.declared.Read.{Read}
-use Rattle.rows.specs.declared.Read.TheVariants.{Item, Refused}
 use Rattle.rows.specs.Fields.{condition_of, count_of, mode_of, instruction_of}
 use Rattle.rows.specs.Rows.{compute_of, beside_of, dm_of, pm_of, access_of, compute_item, dual_item, memory_item, item_of, after, read_of}
 
-module _ (P : Read → Type 0) (refused : (r : Refusal) → P (Refused r)) (instruction : (v : VisaInstruction) → P (Item (item.Instruction v))) where
-  of-compute : (m : Made) → P (compute_item m)
-  of-compute (made.Made compute) = instruction _
-  of-compute (made.Refused r) = refused r
+module _ (P : Result (Item VisaInstruction) Refusal → Type 0) (refused : (r : Refusal) → P (Err r)) (instruction : (v : VisaInstruction) → P (Ok (item.Instruction v))) where
+  of-compute : (m : Result Compute Refusal) → P (compute_item m)
+  of-compute (Ok compute) = instruction _
+  of-compute (Err r) = refused r
 
-  of_dual : (dm pm : DataAccess) (b : Beside) → P (dual_item dm pm b)
-  of_dual dm pm (beside.Compute compute) = instruction _
-  of_dual dm pm (beside.Refused r) = refused r
+  of_dual : (dm pm : DataAccess) (b : Result (Option Compute) Refusal) → P (dual_item dm pm b)
+  of_dual dm pm (Ok compute) = instruction _
+  of_dual dm pm (Err r) = refused r
 
-  of-memory : (access : MemoryAccess) (b : Beside) → P (memory_item access b)
-  of-memory access (beside.Compute compute) = instruction _
-  of-memory access (beside.Refused r) = refused r
+  of-memory : (access : MemoryAccess) (b : Result (Option Compute) Refusal) → P (memory_item access b)
+  of-memory access (Ok compute) = instruction _
+  of-memory access (Err r) = refused r
 
-  either : (t : Bool) (r s : Read) → P r → P s → P (cond t r s)
+  either : (t : Bool) (r s : Result (Item VisaInstruction) Refusal) → P r → P s → P (cond t r s)
   either true r s hr hs = hr
   either false r s hr hs = hs
 
   -- a label's line, a jump's line, and the lines without a name
   chosen :
-      (t u l j : Bool) (label jump rest : Read) → (l ≡ true → P label) → (j ≡ true → P jump) → P rest → cond t l (cond u j true) ≡ true →
+      (t u l j : Bool) (label jump rest : Result (Item VisaInstruction) Refusal) → (l ≡ true → P label) → (j ≡ true → P jump) → P rest → cond t l (cond u j true) ≡ true →
       P (cond t label (cond u jump rest))
   chosen true u l j label jump rest pl pj pr e = pl e
   chosen false true l j label jump rest pl pj pr e = pj e
   chosen false false l j label jump rest pl pj pr e = pr
 
-  of_row : (t : Bool) (places : Places) (r : Read) → (t ≡ true → P r) → P (after (decided t places) r)
+  of_row : (t : Bool) (places : Places) (r : Result (Item VisaInstruction) Refusal) → (t ≡ true → P r) → P (after (decided t places) r)
   of_row false places r h = refused _
-  of_row true Fine r h = h refl
-  of_row true Bad r h = refused _
-  of_row true (Code v) r h = refused _
+  of_row true (Ok _) r h = h refl
+  of_row true (Err m) r h = refused _
 
   module _
       (names : ℕ)
-      (label : (start length : ℕ) → start + length ≤ names → P (Item (item.Label start length)))
-      (jump : (v start length : ℕ) → start + length ≤ names → P (Item (item.Jump (condition_of v) start length)))
-      (begin : (choice v w : ℕ) → P (Item (item.LoopBegin (count_of choice v) (mode_of w))))
-      (end : P (Item item.LoopEnd))
+      (label : (start length : ℕ) → start + length ≤ names → P (Ok (item.Label start length)))
+      (jump : (v start length : ℕ) → start + length ≤ names → P (Ok (item.Jump (condition_of v) start length)))
+      (begin : (choice v w : ℕ) → P (Ok (item.LoopBegin (count_of choice v) (mode_of w))))
+      (end : P (Ok item.LoopEnd))
       (row : List ℕ)
     where
       of-item : inside (at row 0) (at row 1) (at row 2) (at row 3) names ≡ true → P (item_of row)

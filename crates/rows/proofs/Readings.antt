@@ -11,17 +11,18 @@ use Rattle.refusals.specs.declared.Refusal.TheVariants as refusal
 use Rattle.items.specs.declared.LoopCount.TheVariants.{Immediate}
 use Rattle.items.specs.declared.LoopMode.TheVariants.{E2Active}
 use Rattle.items.specs.declared.Item.TheVariants.{Label, LoopBegin}
-use Rattle.rows.specs.declared.Read.{Read}
-use Rattle.rows.specs.declared.Read.TheVariants.{Item, Refused}
+use Rattle.std.specs.Prelude.{Ok, Err, Result}
+use Rattle.items.specs.declared.Item.{Item}
+use Rattle.items.specs.declared.VisaInstruction.{VisaInstruction}
 use Rattle.rows.specs.Fields.{alu_op_of, mode_of, count_of}
 use Rattle.rows.specs.Rows.{compute_of, beside_of, item_of, read_of}
 
 -- a row that begins with these numbers, zeros after them, and nine bytes of names
-abbrev says : List ℕ → Read
+abbrev says : List ℕ → Result (Item VisaInstruction) Refusal
 says numbers = read_of (take 17 (numbers ++ replicate 17 0)) 9
 
 abbrev refuses : List ℕ → Refusal → Type 0
-refuses numbers r = says numbers ≡ Refused r
+refuses numbers r = says numbers ≡ Err r
 
 -- Any 2 comes before any 4, and of two 4s the first in field order stands.
 two_and_four :
@@ -61,16 +62,16 @@ multifunction = (refl, refl, refl)
 
 -- A zero count is read, one over 65535 is 2.
 counts :
-    (says (50 ∷ []) ≡ Item (LoopBegin (Immediate 0) E2Active)) ×
-    (says (50 ∷ 0 ∷ 65535 ∷ []) ≡ Item (LoopBegin (Immediate 65535) E2Active)) ×
+    (says (50 ∷ []) ≡ Ok (LoopBegin (Immediate 0) E2Active)) ×
+    (says (50 ∷ 0 ∷ 65535 ∷ []) ≡ Ok (LoopBegin (Immediate 65535) E2Active)) ×
     refuses (50 ∷ 0 ∷ 65536 ∷ []) refusal.Row
 unfolding read_of check_of places_of said bounds_of fields item_of count_of mode_of
 counts = (refl, refl, refl)
 
 -- An empty name at the very end lies in the names; one that starts past it does not, and no sum wraps.
 names :
-    (says (48 ∷ 9 ∷ 0 ∷ []) ≡ Item (Label 9 0)) ×
-    (says (48 ∷ 0 ∷ 9 ∷ []) ≡ Item (Label 0 9)) ×
+    (says (48 ∷ 9 ∷ 0 ∷ []) ≡ Ok (Label 9 0)) ×
+    (says (48 ∷ 0 ∷ 9 ∷ []) ≡ Ok (Label 0 9)) ×
     refuses (48 ∷ 10 ∷ 0 ∷ []) refusal.Row ×
     refuses (48 ∷ 1 ∷ 9 ∷ []) refusal.Row ×
     refuses (48 ∷ 1 ∷ 4294967295 ∷ []) refusal.Row ×

@@ -5,27 +5,13 @@ ghost use Rattle.std.specs.Prelude.{◌≡◌, ◌+◌, ◌*◌, ◌<◌, ◌≤
 ghost use Rattle.rows.specs.Fields.{condition_of, direction_of, update_of, alu_op_of, mode_of, count_of, scalar_of, transfer_of, other_of, instruction_of};
 ghost use Rattle.rows.specs.Rows.{well_formed, multi_of, single_of, compute_of, beside_of, data_access_of, memory_access_of, compute_item, dual_item, memory_item, item_of, read_of};
 
-use computes::{Made, single};
+use computes::single;
 use items::{
-    AluOp, Condition, DataAccess, Direction, FloatMulAlu, Instruction, Item, LoopCount, LoopMode,
-    MemoryAccess, OptionalCompute, Update, VisaInstruction,
+    AluOp, Compute, Condition, DataAccess, Direction, FloatMulAlu, Instruction, Item, LoopCount,
+    LoopMode, MemoryAccess, Update, VisaInstruction,
 };
-use refusals::{Refusal, Verdict};
+use refusals::Refusal;
 use registers::{IndexRegister, ModifyRegister, Register, UniversalRegister};
-
-// What a row says.
-#[derive(Clone, Copy)]
-pub enum Read {
-    Item(Item),
-    Refused(Refusal),
-}
-
-// The compute beside a move, or its refusal.
-#[derive(Clone, Copy)]
-pub enum Beside {
-    Compute(OptionalCompute),
-    Refused(Refusal),
-}
 
 // The numbers of a row, and the most rows.
 pub const ROW_WIDTH: usize = 17;
@@ -39,7 +25,7 @@ pub fn well_formed(rows: &[u32]) -> bool
     rows.len() % ROW_WIDTH == 0 && rows.len() <= MOST_ROWS * ROW_WIDTH
 }
 
-// The condition with a number.
+// The condition with a number. (No `TryFrom`, here and below: the bounds are tested before, so that no number is left to refuse.)
 #[tactic(auto, unfolding(crate::specs::Fields::condition_of))]
 pub fn condition_of(v: u32) -> Condition
     ensures { result ≡ condition_of v }
@@ -220,7 +206,7 @@ fn other_of(kind: u32, a: u32, b: u32, c: u32) -> VisaInstruction
 
 // The single compute of a kind with its fields, or refusal 17.
 #[tactic(auto, unfolding(crate::specs::Fields::instruction_of, encode::specs::Layouts::layout_of, crate::specs::Fields::others, crate::specs::Fields::scalars))]
-fn single_of(kind: u32, a: u32, b: u32, c: u32) -> Made
+fn single_of(kind: u32, a: u32, b: u32, c: u32) -> Result<Compute, Refusal>
     ensures { result ≡ single_of kind a b c }
 {
     let a = (a % 256) as u8;
@@ -239,7 +225,7 @@ fn single_of(kind: u32, a: u32, b: u32, c: u32) -> Made
         25 => single(0, 0x2a, a, b, 0, a),
         26 => single(0, 0x21, a, b, 0, a),
         27 => single(0, 0x0b, 0, a, b, 16),
-        _ => Made::Refused(Refusal::NotACompute),
+        _ => Err(Refusal::NotACompute),
     }
 }
 
@@ -262,7 +248,7 @@ fn multi_of(row: &[u32]) -> FloatMulAlu
 
 // The compute of a row that has one, or its refusal.
 #[tactic(auto, unfolding(crate::specs::Rows::compute_of))]
-fn compute_of(row: &[u32]) -> Made
+fn compute_of(row: &[u32]) -> Result<Compute, Refusal>
     requires { length row.now ≡ 17 }
     ensures { result ≡ compute_of row.now }
 {
@@ -274,17 +260,14 @@ fn compute_of(row: &[u32]) -> Made
 
 // The compute beside a move, which may be none.
 #[tactic(auto, unfolding(crate::specs::Rows::beside_of))]
-fn beside_of(row: &[u32]) -> Beside
+fn beside_of(row: &[u32]) -> Result<Option<Compute>, Refusal>
     requires { length row.now ≡ 17 }
     ensures { result ≡ beside_of row.now }
 {
     if row[1] == 0 {
-        return Beside::Compute(OptionalCompute::Nothing);
+        return Ok(None);
     }
-    match compute_of(row) {
-        Made::Made(compute) => Beside::Compute(OptionalCompute::Held(compute)),
-        Made::Refused(refusal) => Beside::Refused(refusal),
-    }
+    Ok(Some(compute_of(row)?))
 }
 
 // One post-modify half of a dual move.
@@ -318,59 +301,50 @@ fn memory_access_of(a: u32, b: u32, c: u32, d: u32, e: u32) -> MemoryAccess
 }
 
 // The compute instruction, or the compute's refusal.
-fn compute_item(made: Made) -> Read
+fn compute_item(made: Result<Compute, Refusal>) -> Result<Item<VisaInstruction>, Refusal>
     ensures { result ≡ compute_item made }
 {
-    match made {
-        Made::Made(compute) => Read::Item(Item::Instruction(VisaInstruction::Compute(compute))),
-        Made::Refused(refusal) => Read::Refused(refusal),
-    }
+    Ok(Item::Instruction(VisaInstruction::Compute(made?)))
 }
 
 // The dual move, or the compute's refusal.
-fn dual_item(dm: DataAccess, pm: DataAccess, beside: Beside) -> Read
+fn dual_item(
+    dm: DataAccess,
+    pm: DataAccess,
+    beside: Result<Option<Compute>, Refusal>,
+) -> Result<Item<VisaInstruction>, Refusal>
     ensures { result ≡ dual_item dm pm beside }
 {
-    match beside {
-        Beside::Compute(compute) => Read::Item(Item::Instruction(VisaInstruction::DualMove {
-            compute,
-            dm,
-            pm,
-        })),
-        Beside::Refused(refusal) => Read::Refused(refusal),
-    }
+    let compute = beside?;
+    Ok(Item::Instruction(VisaInstruction::DualMove { compute, dm, pm }))
 }
 
 // The memory move, or the compute's refusal.
-fn memory_item(access: MemoryAccess, beside: Beside) -> Read
+fn memory_item(
+    access: MemoryAccess,
+    beside: Result<Option<Compute>, Refusal>,
+) -> Result<Item<VisaInstruction>, Refusal>
     ensures { result ≡ memory_item access beside }
 {
-    match beside {
-        Beside::Compute(compute) => Read::Item(Item::Instruction(VisaInstruction::MemoryMove {
-            compute,
-            access,
-        })),
-        Beside::Refused(refusal) => Read::Refused(refusal),
-    }
+    let compute = beside?;
+    Ok(Item::Instruction(VisaInstruction::MemoryMove { compute, access }))
 }
 
-// The item of an instruction of a kind that holds no compute, with its fields.
+// The instruction of a kind that holds no compute, with its fields.
 #[tactic(auto, unfolding(crate::specs::Fields::instruction_of))]
-fn instruction_item(kind: u32, a: u32, b: u32, c: u32) -> Read
-    ensures { result ≡ Read.Item (Item.Instruction (instruction_of kind a b c)) }
+fn instruction_of(kind: u32, a: u32, b: u32, c: u32) -> VisaInstruction
+    ensures { result ≡ instruction_of kind a b c }
 {
-    if kind <= 12 {
-        return Read::Item(Item::Instruction(VisaInstruction::Scalar(scalar_of(kind, a, b, c))));
+    match kind {
+        0..=12 => VisaInstruction::Scalar(scalar_of(kind, a, b, c)),
+        13..=24 => transfer_of(kind, a, b, c),
+        _ => other_of(kind, a, b, c),
     }
-    if kind <= 24 {
-        return Read::Item(Item::Instruction(transfer_of(kind, a, b, c)));
-    }
-    Read::Item(Item::Instruction(other_of(kind, a, b, c)))
 }
 
 // The item of a row whose places hold numbers of its fields, or the refusal of its compute.
 #[tactic(auto, unfolding(crate::specs::Rows::item_of))]
-fn item_of(row: &[u32]) -> Read
+fn item_of(row: &[u32]) -> Result<Item<VisaInstruction>, Refusal>
     requires { length row.now ≡ 17 }
     ensures { result ≡ item_of row.now }
 {
@@ -389,13 +363,13 @@ fn item_of(row: &[u32]) -> Read
             let access = memory_access_of(row[9], row[10], row[11], row[12], row[13]);
             memory_item(access, beside_of(row))
         }
-        48 => Read::Item(Item::Label {
+        48 => Ok(Item::Label {
             start: a,
             length: b,
         }),
         49 => {
             let condition = condition_of(a);
-            Read::Item(Item::Jump {
+            Ok(Item::Jump {
                 condition,
                 start: b,
                 length: c,
@@ -404,21 +378,19 @@ fn item_of(row: &[u32]) -> Read
         50 => {
             let count = loop_count_of(a, b);
             let mode = loop_mode_of(c);
-            Read::Item(Item::LoopBegin { count, mode })
+            Ok(Item::LoopBegin { count, mode })
         }
-        51 => Read::Item(Item::LoopEnd),
-        _ => instruction_item(kind, a, b, c),
+        51 => Ok(Item::LoopEnd),
+        _ => Ok(Item::Instruction(instruction_of(kind, a, b, c))),
     }
 }
 
 // What a row of seventeen numbers says, with `names` bytes of names: an item, or refusal 2, 4, 17, 18 or 19.
 #[tactic(auto, unfolding(crate::specs::Rows::read_of))]
-pub fn read_row(row: &[u32], names: usize) -> Read
+pub fn read_row(row: &[u32], names: usize) -> Result<Item<VisaInstruction>, Refusal>
     requires { length row.now ≡ 17 }
     ensures { result ≡ read_of row.now names }
 {
-    match bounds::check(row, names) {
-        Verdict::Good => item_of(row),
-        Verdict::Refused(refusal) => Read::Refused(refusal),
-    }
+    bounds::check(row, names)?;
+    item_of(row)
 }

@@ -7,11 +7,9 @@ use mathlib.Core.List.{List}
 use native.Mathlib.Omega.{arith}
 use lib.ListN.{length}
 use Rattle.refusals.specs.declared.Told.{Told}
-use Rattle.refusals.specs.declared.Answer.TheVariants.{Refused}
+use Rattle.std.specs.Prelude.{Ok, Err}
+use Rattle.refusals.specs.Answers.{Verdict, Judged}
 use Rattle.refusals.specs.declared.Refusal.TheVariants.{RowSlice}
-use Rattle.refusals.specs.declared.Verdict.{Verdict}
-use Rattle.refusals.specs.declared.Judged.{Judged}
-use Rattle.refusals.specs.declared.Verdict.TheVariants.{Good}
 use Rattle.refusals.specs.Numbers.{counted, answer_in, answer_of, answered}
 use Rattle.refusals.proofs.Numbered.{answers_zero}
 use Rattle.rows.specs.Rows.{well_formed}
@@ -33,7 +31,7 @@ module _ (rows names : List ℕ) (lent : Lent) (t : Told) (x : Lent) (contract :
 
   -- a well-formed list is built
   built-is : well_formed (length rows) ≡ true → build_of rows names lent ≡ built (kernel_of rows names) lent
-  built-is w = ap (λ (b : Bool). cond b (built (kernel_of rows names) lent) (outcome (Refused RowSlice 0) lent)) w
+  built-is w = ap (λ (b : Bool). cond b (built (kernel_of rows names) lent) (outcome (Err (record { why = RowSlice; row = 0 })) lent)) w
 
   pub told_is : well_formed (length rows) ≡ true → t ≡ answered (answer_of judged count)
   told_is w = contract.answer ∙ ap (λ (o : Outcome). answered o.answer) (built-is w)
@@ -46,10 +44,10 @@ module _ (rows names : List ℕ) (lent : Lent) (t : Told) (x : Lent) (contract :
       go true w = w
       go false w =
           let a : t.number ≡ 1 =
-          ap (λ (o : Told). o.number) (contract.answer ∙ ap (λ (b : Bool). answered (cond b (built (kernel_of rows names) lent) (outcome (Refused RowSlice 0) lent)).answer) w) in
+          ap (λ (o : Told). o.number) (contract.answer ∙ ap (λ (b : Bool). answered (cond b (built (kernel_of rows names) lent) (outcome (Err (record { why = RowSlice; row = 0 })) lent)).answer) w) in
           absurd (omega arith)
 
-  zero_good : well_formed (length rows) ≡ true → (t.number ≡ 0) ↔ (judged.verdict ≡ Good)
+  zero_good : well_formed (length rows) ≡ true → (t.number ≡ 0) ↔ (judged.verdict ≡ Ok tt)
   zero_good w =
       let z = answers_zero judged.row judged.verdict count in
       let n = ap (λ (o : Told). o.number) (told_is w) in
@@ -64,7 +62,7 @@ module _ (rows names : List ℕ) (lent : Lent) (t : Told) (x : Lent) (contract :
 
   -- what is told of an accepted list, and what stands in its parcels
   module _ (e : t.number ≡ 0) where
-    accepted-good : judged.verdict ≡ Good
+    accepted-good : judged.verdict ≡ Ok tt
     accepted-good = (zero_good (accepted_well_formed e)).0 e
 
     pub accepted-count : t ≡ counted count

@@ -9,11 +9,11 @@ use borrow.Author.Tests.{ltb-true, leb-true, le-ltb, ne_eqb, eqb-true}
 use Rattle.items.specs.Kinds.{is_branch}
 use Rattle.items.specs.declared.LoopCount.{LoopCount}
 use Rattle.coded.specs.declared.Coding.{Coding}
-use Rattle.coded.specs.declared.Coded.TheVariants.{Instruction, LoopBegin, LoopEnd}
-use Rattle.refusals.specs.declared.Verdict.TheVariants.{Good}
+use Rattle.items.specs.declared.Item.TheVariants.{Instruction, LoopBegin, LoopEnd}
+use Rattle.std.specs.Prelude.{Ok}
+use Rattle.coded.specs.Coded.{Coded}
 use Rattle.encode.specs.Encoding.{form_verdict}
 use Rattle.encode.proofs.Reach.{loop-reach}
-use Rattle.coded.specs.declared.Coded.{Coded}
 use Rattle.places.specs.declared.Rooms.{Rooms}
 use Rattle.places.specs.Items.{Kernel, about, size, is_entry, is_end, is_short, address, entries, nest}
 use Rattle.places.specs.Looking.{last_at, opener}
@@ -58,14 +58,14 @@ module _ (k : Kernel) (r : Rooms) (valid : Valid k r) where
   outside i h c f =
       ⊎_elim (λ d. let x = inside i h d c in absurd (f x.start x.end x.pair x.after x.before)) (λ d. le-ltb 0 (nest it i) d) (order 0 (nest it i))
 
-  pub no_branch : (i : ℕ) (v : Coding) → i < n → it i ≡ Instruction v → (is_branch v.kind && ltb 0 (nest it i)) ≡ true → ⊥
+  pub no_branch : (i : ℕ) (v : Coding) → i < n → it i ≡ Ok (Instruction v) → (is_branch v.kind && ltb 0 (nest it i)) ≡ true → ⊥
   no_branch i v h e t =
       let y = and_both _ _ t in
       let x = inside i h (ltb-true 0 (nest it i) y.1) (ap (λ (s : Coded). (about s).closes) e) in
       true_false y.0 (valid.rule3.no_branch x.start x.end i v x.pair x.after x.before e)
 
   -- ---- a loop end and its start
-  module _ (i : ℕ) (h : i < n) (e : it i ≡ LoopEnd) where
+  module _ (i : ℕ) (h : i < n) (e : it i ≡ Ok LoopEnd) where
     inner : 0 < nest it i
     inner = valid.rule3.matched i h e
 
@@ -119,7 +119,7 @@ module _ (k : Kernel) (r : Rooms) (valid : Valid k r) where
         let w : entries it i ≤ entries it q + 11 = leb-true _ _ u.1 in
         s.1 (valid.rule4.tail b i q pair (ltb-true _ _ u.0) l s.0 (omega arith))
 
-    form : form_verdict (loop_row it i b (it b)) ≡ Good
+    form : form_verdict (loop_row it i b (it b)) ≡ Ok tt
     form =
         let p = pair in
         let q = last.row in
@@ -128,11 +128,11 @@ module _ (k : Kernel) (r : Rooms) (valid : Valid k r) where
         let g = valid.rule5.near b i q p last_of in
         let l : b ≤ q = ⊎_elim (λ u. absurd (let x = total-up is_entry it (suc q) b u in let z = past in let s = last.none_after in omega arith)) (λ u. u) (order q b) in
         let x = total-up size it b q l in
-        subst (λ (y : Coded). form_verdict (loop_row it i b y) ≡ Good) (sym p.opens)
+        subst (λ (y : Coded). form_verdict (loop_row it i b y) ≡ Ok tt) (sym p.opens)
         ((loop-reach p.count p.mode (last_at it i) (address it b)).1
-        (omega arith, omega arith, λ z. let d = valid.rule5.counted b 0 p.mode (omega (arith, p.order)) (p.opens ∙ ap (λ (c : LoopCount). LoopBegin c p.mode) z) in omega arith))
+        (omega arith, omega arith, λ z. let d = valid.rule5.counted b 0 p.mode (omega (arith, p.order)) (p.opens ∙ ap (λ (c : LoopCount). (Ok (LoopBegin c p.mode))) z) in omega arith))
 
-    pub end-passes : AllGood (faults k r i LoopEnd)
+    pub end-passes : AllGood (faults k r i (Ok LoopEnd))
     end-passes = (
       good-when _ _ (ne_eqb _ _ (λ (z : nest it i ≡ 0). let w = inner in omega arith)),
       (

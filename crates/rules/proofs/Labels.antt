@@ -6,10 +6,10 @@ use mathlib.Core.Logic.{⊎_elim}
 use mathlib.Core.Bool.{false}
 use lib.ListN.{length}
 use Rattle.items.specs.declared.Condition.{Condition}
-use Rattle.coded.specs.declared.Coded.TheVariants.{Label, Jump}
-use Rattle.refusals.specs.declared.Verdict.TheVariants.{Good}
+use Rattle.items.specs.declared.Item.TheVariants.{Label, Jump}
+use Rattle.std.specs.Prelude.{Ok}
+use Rattle.coded.specs.Coded.{Coded}
 use Rattle.encode.proofs.Reach.{jump-reach}
-use Rattle.coded.specs.declared.Coded.{Coded}
 use Rattle.places.specs.declared.Rooms.{Rooms}
 use Rattle.places.specs.Items.{Kernel, address}
 use Rattle.places.specs.Looking.{Found, at, bears, labelled, is_found}
@@ -28,19 +28,19 @@ module _ (k : Kernel) (named : Named k) where
 
   -- ---- where the rows pass and the jumps reach
   module _ (r : Rooms) (rows : RowsPass k r) (jumps : JumpsReach k) where
-    twice : (i j a b c d : ℕ) → i < j → j < n → it i ≡ Label a b → it j ≡ Label c d → SameName names a b c d → ⊥
+    twice : (i j a b c d : ℕ) → i < j → j < n → it i ≡ Ok (Label a b) → it j ≡ Ok (Label c d) → SameName names a b c d → ⊥
     twice i j a b c d l h e f s =
         let g = named.label j c d f in
         true_false (label-bears names c d g (it i) a b (named.label i a b e) e s) (single k r n rows c d j h (label-bears names c d g (it j) c d g f refl) i l)
 
-    aimed : (i : ℕ) → i < n → (c : Condition) (a b : ℕ) → it i ≡ Jump c a b → Aimed k i a b
+    aimed : (i : ℕ) → i < n → (c : Condition) (a b : ℕ) → it i ≡ Ok (Jump c a b) → Aimed k i a b
     aimed i h c a b e =
-        ⊎_elim (λ x. absurd (refused-good _ (subst (λ (f : Found). reach it c i a b f ≡ Good) x.1 good)))
+        ⊎_elim (λ x. absurd (refused-good _ (subst (λ (f : Found). reach it c i a b f ≡ Ok tt) x.1 good)))
         (λ x.
         let q = x.0 in
         let w = x.1 in
         let l = bears-label names a b (named.jump i c a b e) (it q) (named.label q) w.holds in
-        let g = (jump-reach c (address it q) (address it i) false).0 (subst (λ (f : Found). reach it c i a b f ≡ Good) x.2 good) in
+        let g = (jump-reach c (address it q) (address it i) false).0 (subst (λ (f : Found). reach it c i a b f ≡ Ok tt) x.2 good) in
         record {
           row = q;
           start = l.start;
@@ -53,8 +53,8 @@ module _ (k : Kernel) (named : Named k) where
         })
         (earliest-row (λ q. bears names a b (it q)) n)
       where
-        good : reach it c i a b (labelled k a b n) ≡ Good
-        good = subst (λ (y : Coded). reaches k i y ≡ Good) e (jumps i h)
+        good : reach it c i a b (labelled k a b n) ≡ Ok tt
+        good = subst (λ (y : Coded). reaches k i y ≡ Ok tt) e (jumps i h)
 
     pub rule2 : Rule2 k
     rule2 =
@@ -65,7 +65,7 @@ module _ (k : Kernel) (named : Named k) where
 
   -- ---- where rule 2 holds
   module _ (rule : Rule2 k) where
-    pub unique : (i a b : ℕ) → i < n → it i ≡ Label a b → is_found (labelled k a b i) ≡ false
+    pub unique : (i a b : ℕ) → i < n → it i ≡ Ok (Label a b) → is_found (labelled k a b i) ≡ false
     unique i a b h e =
         ⊎_elim (λ x. ap is_found x.1)
         (λ x.
@@ -77,7 +77,7 @@ module _ (k : Kernel) (named : Named k) where
         (earliest-row (λ q. bears names a b (it q)) i)
 
     -- the label that bears a name is the one that is found
-    pub labelled-is : (a b q s t : ℕ) → a + b ≤ length names → q < n → it q ≡ Label s t → SameName names s t a b → labelled k a b n ≡ at q
+    pub labelled-is : (a b q s t : ℕ) → a + b ≤ length names → q < n → it q ≡ Ok (Label s t) → SameName names s t a b → labelled k a b n ≡ at q
     labelled-is a b q s t h g e m =
         ⊎_elim (λ x. absurd (true_false (label-bears names a b h (it q) s t (named.label q s t e) e m) (x.0 q g)))
         (λ x.
@@ -85,8 +85,8 @@ module _ (k : Kernel) (named : Named k) where
         x.2 ∙ ap at (rule.once x.0 q l.start l.len s t (omega (arith, x.1.before)) (omega arith) l.label e (l.name ∙ sym m)))
         (earliest-row (λ q. bears names a b (it q)) n)
 
-    pub jump-reaches : (i : ℕ) → i < n → (c : Condition) (a b : ℕ) → it i ≡ Jump c a b → reach it c i a b (labelled k a b n) ≡ Good
+    pub jump-reaches : (i : ℕ) → i < n → (c : Condition) (a b : ℕ) → it i ≡ Ok (Jump c a b) → reach it c i a b (labelled k a b n) ≡ Ok tt
     jump-reaches i h c a b e =
         let g = rule.aimed i h c a b e in
         let f = labelled-is a b g.row g.start g.length (named.jump i c a b e) g.within g.label g.name in
-        subst (λ (f : Found). reach it c i a b f ≡ Good) (sym f) ((jump-reach c (address it g.row) (address it i) false).1 (omega (arith, g.not_below, g.not_above)))
+        subst (λ (f : Found). reach it c i a b f ≡ Ok tt) (sym f) ((jump-reach c (address it g.row) (address it i) false).1 (omega (arith, g.not_below, g.not_above)))

@@ -7,11 +7,11 @@ use lib.Dec.{ltb, leb, eqb}
 use lib.IntN.{pos, ◌-ℤ◌}
 use borrow.Author.Tests.{lt-ltb, le-leb, ltb-false, eq-eqb, eqb-false}
 use Rattle.items.specs.declared.LoopCount.TheVariants.{Immediate}
-use Rattle.coded.specs.declared.Coded.TheVariants.{Instruction, Label, Jump, LoopEnd}
-use Rattle.refusals.specs.declared.Verdict.TheVariants.{Good}
+use Rattle.items.specs.declared.Item.TheVariants.{Instruction, Label, Jump, LoopEnd}
+use Rattle.std.specs.Prelude.{Ok}
+use Rattle.coded.specs.Coded.{Coded}
 use Rattle.encode.specs.Encoding.{form_verdict, loop_form}
 use Rattle.encode.proofs.Reach.{loop-reach}
-use Rattle.coded.specs.declared.Coded.{Coded}
 use Rattle.places.specs.declared.Rooms.{Rooms}
 use Rattle.places.specs.Items.{Kernel, about, size, is_entry, is_end, is_short, address, entries, nest}
 use Rattle.places.specs.Looking.{last_at, opener}
@@ -34,13 +34,13 @@ module _ (k : Kernel) (r : Rooms) (rows : RowsPass k r) where
     one : is_entry (it b) ≡ 1
     one = opens-entry (it b) (pair_open k p).opens
 
-    closing : AllGood (faults k r e LoopEnd)
-    closing = passed k r rows e p.before_end LoopEnd p.closes
+    closing : AllGood (faults k r e (Ok LoopEnd))
+    closing = passed k r rows e p.before_end (Ok LoopEnd) p.closes
 
-    pub loop-form : form_verdict (loop_form p.count p.mode (pos (last_at it e) -ℤ pos (address it b))) ≡ Good
+    pub loop-form : form_verdict (loop_form p.count p.mode (pos (last_at it e) -ℤ pos (address it b))) ≡ Ok tt
     loop-form =
-        subst (λ (y : Coded). form_verdict (loop_row it e b y) ≡ Good) p.opens
-        (subst (λ (x : ℕ). form_verdict (loop_row it e x (it x)) ≡ Good) (pair-opener k p) closing.1.1.1.1.0)
+        subst (λ (y : Coded). form_verdict (loop_row it e b y) ≡ Ok tt) p.opens
+        (subst (λ (x : ℕ). form_verdict (loop_row it e x (it x)) ≡ Ok tt) (pair-opener k p) closing.1.1.1.1.0)
 
     some : Body k b e
     some =
@@ -70,21 +70,21 @@ module _ (k : Kernel) (r : Rooms) (rows : RowsPass k r) where
   pub rule3 : nest it n ≡ 0 → Rule3 k
   rule3 closed =
       record {
-        matched = λ e h z. let w : nest it e ≡ 0 → ⊥ = eqb-false _ _ (when-good _ _ (passed k r rows e h LoopEnd z).0) in omega arith;
+        matched = λ e h z. let w : nest it e ≡ 0 → ⊥ = eqb-false _ _ (when-good _ _ (passed k r rows e h (Ok LoopEnd) z).0) in omega arith;
         closed = omega arith;
         no_label = λ b e q a c p u v z.
-            outside q (when-good _ _ (passed k r rows q (omega (arith, p.before_end)) (Label a c) z).0) b e p u v;
+            outside q (when-good _ _ (passed k r rows q (omega (arith, p.before_end)) (Ok (Label a c)) z).0) b e p u v;
         no_jump = λ b e q c a d p u v z.
-            outside q (when-good _ _ (passed k r rows q (omega (arith, p.before_end)) (Jump c a d) z).0) b e p u v;
+            outside q (when-good _ _ (passed k r rows q (omega (arith, p.before_end)) (Ok (Jump c a d)) z).0) b e p u v;
         no_branch = λ b e q w p u v z.
-            not_so _ (λ t. outside q (and_first _ _ t (when-good _ _ (passed k r rows q (omega (arith, p.before_end)) (Instruction w) z).0)) b e p u v);
+            not_so _ (λ t. outside q (and_first _ _ t (when-good _ _ (passed k r rows q (omega (arith, p.before_end)) (Ok (Instruction w)) z).0)) b e p u v);
         some = some;
       }
 
-  alone : (e f : ℕ) → e < f → f < n → it e ≡ LoopEnd → it f ≡ LoopEnd → entries it e ≡ entries it f → ⊥
+  alone : (e f : ℕ) → e < f → f < n → it e ≡ Ok LoopEnd → it f ≡ Ok LoopEnd → entries it e ≡ entries it f → ⊥
   alone e f l h x y z =
       true_false (let w : (is_end (it e) && eqb (entries it e) (entries it f)) ≡ true = rw (x, eq-eqb _ _ z) refl in w)
-      (found-good _ f _ (passed k r rows f h LoopEnd y).1.1.0 e l)
+      (found-good _ f _ (passed k r rows f h (Ok LoopEnd) y).1.1.0 e l)
 
   pub rule4 : Rule4 k
   rule4 =

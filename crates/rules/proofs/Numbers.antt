@@ -8,8 +8,8 @@ use lib.ListN.{length}
 use Rattle.refusals.specs.declared.Told.{Told}
 use Rattle.refusals.specs.declared.Refusal.{Refusal}
 use Rattle.refusals.specs.declared.Refusal.TheVariants.{RowSlice, DuplicateLabel, UndefinedLabel, EmptyLoop, UnclosedLoop, UnmatchedLoopEnd, SharedLoopEnd, LoopTailNotFullWidth, BranchInLoop, LabelInLoop, NoRoomForParcels, NoRoomForLabels, NoRoomForJumps, NoRoomForLoops}
-use Rattle.refusals.specs.declared.Verdict.{Verdict}
-use Rattle.refusals.specs.declared.Verdict.TheVariants.{Good, Refused}
+use Rattle.std.specs.Prelude.{Ok, Err}
+use Rattle.refusals.specs.Answers.{Verdict}
 use Rattle.refusals.specs.Numbers.{told_of, answer_in, answered, among, naming}
 use Rattle.refusals.specs.Calls.{reading, encoding, build, numbers_of}
 use Rattle.refusals.proofs.Numbered.{checked, numbered}
@@ -29,19 +29,19 @@ module _ (k : Kernel) where
     pub tells : Tells (numbers_of build) v
     pub within : (checked v).start + (checked v).length ≤ length k.names
 
-  good : Sound Good
+  good : Sound (Ok tt)
   good = record { tells = refl; within = omega arith }
 
-  unnamed : (r : Refusal) → Tells (numbers_of build) (Refused r) → among naming (told_of r).number ≡ false → Sound (Refused r)
+  unnamed : (r : Refusal) → Tells (numbers_of build) (Err r) → among naming (told_of r).number ≡ false → Sound (Err r)
   unnamed r h n = let u = (numbered r).unnamed n in record { tells = h; within = omega (arith, u.0, u.1) }
 
-  named : (r : Refusal) → Tells (numbers_of build) (Refused r) → (told_of r).start + (told_of r).length ≤ length k.names → Sound (Refused r)
+  named : (r : Refusal) → Tells (numbers_of build) (Err r) → (told_of r).start + (told_of r).length ≤ length k.names → Sound (Err r)
   named r h w = record { tells = h; within = w }
 
   -- of a shorter list without names
   among_these : (ns : List ℕ) → part (0 ∷ ns) (0 ∷ numbers_of build) ≡ true → none (0 ∷ ns) naming ≡ true → (v : Verdict) → Tells ns v → Sound v
-  among_these ns p n Good h = good
-  among_these ns p n (Refused r) h = unnamed r (tells-wider ns (numbers_of build) (Refused r) p h) (other (0 ∷ ns) naming (checked (Refused r)).number n h)
+  among_these ns p n (Ok _) h = good
+  among_these ns p n (Err r) h = unnamed r (tells-wider ns (numbers_of build) (Err r) p h) (other (0 ∷ ns) naming (checked (Err r)).number n h)
 
   tail-found : (f : Found) (address : ℕ → ℕ) → Sound (when_found f (λ q. LoopTailNotFullWidth (address q)))
   tail-found (at row) address = unnamed (LoopTailNotFullWidth (address row)) refl refl
@@ -71,8 +71,8 @@ module _ (k : Kernel) where
 
 -- ---- an answer
 answer_sound : (k : Kernel) (row : ℕ) (v : Verdict) (count : ℕ) → Sound k v → Tellable k.names (answered (answer_in row v count))
-answer_sound k row Good count s = record { number = refl; within = omega arith; unnamed = λ f. (refl, refl) }
-answer_sound k row (Refused r) count s = record { number = s.tells; within = s.within; unnamed = (numbered r).unnamed }
+answer_sound k row (Ok _) count s = record { number = refl; within = omega arith; unnamed = λ f. (refl, refl) }
+answer_sound k row (Err r) count s = record { number = s.tells; within = s.within; unnamed = (numbered r).unnamed }
 
 -- THE THEOREM: what a build tells is 0 or a number of its table, and the range of a name lies in the names; any other answer has range 0, 0
 pub build-tells : (rows names : List ℕ) (lent : Lent) (t : Told) (x : Lent) → Builds rows names lent t x → Tellable names t

@@ -2,7 +2,7 @@
 use Prim.Native.Nat.{ℕ, ◌+◌, ◌≤◌, ◌<◌}
 use native.Mathlib.Omega.{arith}
 use mathlib.Core.Path.{◌≡◌, sym, ap, ◌∙◌}
-use Rattle.coded.specs.declared.Coded.{Coded}
+use Rattle.coded.specs.Coded.{Coded}
 use Rattle.places.specs.Items.{Kernel, about, nest}
 use Rattle.places.specs.Looking.{opener}
 use Rattle.prefixes.proofs.Traits.{opens_begin, closes-end}

@@ -14,10 +14,10 @@ use Rattle.signs.specs.Signs.{signed_in}
 use Rattle.items.specs.declared.Condition.{Condition}
 use Rattle.items.specs.declared.LoopCount.{LoopCount}
 use Rattle.items.specs.declared.LoopMode.{LoopMode}
-use Rattle.coded.specs.declared.Coded.{Coded}
-use Rattle.coded.specs.declared.Coded.TheVariants.{Instruction, Label, Jump, LoopBegin}
-use Rattle.refusals.specs.declared.Verdict.{Verdict}
-use Rattle.refusals.specs.declared.Verdict.TheVariants.{Good}
+use Rattle.std.specs.Prelude.{Ok}
+use Rattle.coded.specs.Coded.{Coded}
+use Rattle.refusals.specs.Answers.{Verdict}
+use Rattle.items.specs.declared.Item.TheVariants.{Instruction, Label, Jump, LoopBegin}
 use Rattle.encode.specs.Encoding.{form_verdict, jump_form, loop_form, settled}
 use Rattle.encode.proofs.Reach.{jump-word, loop-word}
 use Rattle.encode.proofs.Carried.{jump-carries, loop-carries}
@@ -45,7 +45,7 @@ use Rattle.rules.proofs.Exactly.{accepted_exactly_when_valid, verdict-good}
 joined-low : (w : ℕ) → (field 23 0 (joined (cut 3 w)) ≡ field 23 0 w) × (field 22 0 (joined (cut 3 w)) ≡ field 22 0 w)
 joined-low w = rw (joined-cut 3 w) (omega arith, omega arith)
 
-module _ (k : Kernel) (lent : Lent) (named : Named k) (good : verdict k (rooms_of_lent lent) ≡ Good) where
+module _ (k : Kernel) (lent : Lent) (named : Named k) (good : verdict k (rooms_of_lent lent) ≡ Ok tt) where
   open k use {names, it, n}
 
   abbrev P : List ℕ
@@ -73,12 +73,12 @@ module _ (k : Kernel) (lent : Lent) (named : Named k) (good : verdict k (rooms_o
       (rw (in_order, ← (emits k i (it i)), ← (place-emitted k i)) (gather-at emitted i n (drop (place it n) lent.parcels) h))
 
   -- the label that is found is the one that bears the name
-  jump : (i : ℕ) (c : Condition) (a b q s t : ℕ) → i < n → it i ≡ Jump c a b → q < n → it q ≡ Label s t → SameName names s t a b
+  jump : (i : ℕ) (c : Condition) (a b q s t : ℕ) → i < n → it i ≡ Ok (Jump c a b) → q < n → it q ≡ Ok (Label s t) → SameName names s t a b
       → WordAt (jump_form c (pos (address it q) -ℤ pos (address it i)) false) (place it i) P
   jump i c a b q s t h e g f m =
-      let r : reach it c i a b (labelled k a b n) ≡ Good = subst (λ (x : Coded). reaches k i x ≡ Good) e (((verdict-good k lent).0 good).2 i h) in
+      let r : reach it c i a b (labelled k a b n) ≡ Ok tt = subst (λ (x : Coded). reaches k i x ≡ Ok tt) e (((verdict-good k lent).0 good).2 i h) in
       let o : labelled k a b n ≡ at q = labelled-is k named valid.rule2 a b q s t (named.jump i c a b e) g f m in
-      let w = jump-word c _ false (subst (λ (x : Found). reach it c i a b x ≡ Good) o r) in
+      let w = jump-word c _ false (subst (λ (x : Found). reach it c i a b x ≡ Ok tt) o r) in
       record { word = w.0; is = w.1; stands = at_place i h _ e ∙ ap (jump_parcels it c i) o ∙ ap settled w.1 }
 
   -- the end that is found is the one that pairs with the start
@@ -91,7 +91,7 @@ module _ (k : Kernel) (lent : Lent) (named : Named k) (good : verdict k (rooms_o
       (ap (λ (y : Coded). (about y).closes) o.closes) (pair_open k o) o.level in
       let w =
       loop-word o.count o.mode _
-      (subst (λ (x : ℕ). form_verdict (loop_form o.count o.mode (pos x -ℤ pos (address it b))) ≡ Good) u (loop-form k _ rows b e o)) in
+      (subst (λ (x : ℕ). form_verdict (loop_form o.count o.mode (pos x -ℤ pos (address it b))) ≡ Ok tt) u (loop-form k _ rows b e o)) in
       record {
         word = w.0;
         is = w.1;
@@ -103,7 +103,7 @@ module _ (k : Kernel) (lent : Lent) (named : Named k) (good : verdict k (rooms_o
       }
 
   -- ---- with nothing left to supply
-  pub each-jump : (i : ℕ) (c : Condition) (a b : ℕ) → i < n → it i ≡ Jump c a b → JumpCarries k P i c a b
+  pub each-jump : (i : ℕ) (c : Condition) (a b : ℕ) → i < n → it i ≡ Ok (Jump c a b) → JumpCarries k P i c a b
   each-jump i c a b h e =
       let g = valid.rule2.aimed i h c a b e in
       let w = jump i c a b g.row g.start g.length h e g.within g.label g.name in
@@ -116,7 +116,7 @@ module _ (k : Kernel) (lent : Lent) (named : Named k) (good : verdict k (rooms_o
             ∙ jump-carries c _ false w.word w.is;
       }
 
-  pub each-loop : (b : ℕ) (c : LoopCount) (m : LoopMode) → b < n → it b ≡ LoopBegin c m → LoopCarries k P b c m
+  pub each-loop : (b : ℕ) (c : LoopCount) (m : LoopMode) → b < n → it b ≡ Ok (LoopBegin c m) → LoopCarries k P b c m
   each-loop b c m h e =
       let x = pair-from k b valid.rule3.closed h (ap (λ (y : Coded). (about y).opens) e) in
       let q = x.pair in
@@ -151,7 +151,7 @@ module _ (k : Kernel) (lent : Lent) (named : Named k) (good : verdict k (rooms_o
       record {
         in_order = in_order;
         at_place = λ i h. at_place i h (it i) refl;
-        instruction = λ i c h e. at_place i h (Instruction c) e;
+        instruction = λ i c h e. at_place i h (Ok (Instruction c)) e;
         jump = each-jump;
         loop = each-loop;
       }

@@ -5,7 +5,7 @@ use mathlib.Core.Path.{◌≡◌}
 use mathlib.Core.Bool.{false}
 use lib.Dec.{ltb}
 use borrow.Author.Tests.{le-ltb}
-use Rattle.coded.specs.declared.Coded.{Coded}
+use Rattle.coded.specs.Coded.{Coded}
 use Rattle.places.specs.declared.Rooms.{Rooms}
 use Rattle.places.specs.Items.{Kernel, total}
 use Rattle.prefixes.proofs.Totals.{total-up}

@@ -2,10 +2,9 @@
 use Prim.Native.Nat.{ℕ, ◌<◌}
 use native.Mathlib.Omega.{arith}
 use mathlib.Core.Path.{◌≡◌}
-use Rattle.coded.specs.declared.Coded.TheVariants.{Instruction}
-use Rattle.refusals.specs.declared.Verdict.TheVariants.{Good}
-use Rattle.coded.specs.declared.Coded.{Coded}
-use Rattle.coded.specs.declared.Coded.TheVariants.{Refused}
+use Rattle.items.specs.declared.Item.TheVariants.{Instruction}
+use Rattle.std.specs.Prelude.{Ok, Err}
+use Rattle.coded.specs.Coded.{Coded}
 use Rattle.places.specs.Items.{Kernel}
 use Rattle.places.specs.Verdict.{faults, reach_at}
 use Rattle.places.specs.declared.Rooms.{Rooms}
@@ -16,7 +15,7 @@ use Rattle.rules.specs.WhichRow.{RowsPass}
 
 -- every jump reaches its label
 abbrev pub JumpsReach : Kernel → Type 0
-JumpsReach k = (i : ℕ) → i < k.n → reach_at k i ≡ Good
+JumpsReach k = (i : ℕ) → i < k.n → reach_at k i ≡ Ok tt
 
 module _ (k : Kernel) (r : Rooms) (rows : RowsPass k r) where
   pub passed : (i : ℕ) → i < k.n → (x : Coded) → k.it i ≡ x → AllGood (faults k r i x)
@@ -25,6 +24,6 @@ module _ (k : Kernel) (r : Rooms) (rows : RowsPass k r) where
   pub rule1 : Rule1 k
   rule1 =
       record {
-        constructible = λ i h w e. refused-good w (passed i h (Refused w) e).0;
-        encodes = λ i h v e. (passed i (omega arith) (Instruction v) e).1.0;
+        constructible = λ i h w e. refused-good w (passed i h (Err w) e).0;
+        encodes = λ i h v e. (passed i (omega arith) (Ok (Instruction v)) e).1.0;
       }

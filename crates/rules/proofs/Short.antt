@@ -11,16 +11,15 @@ use borrow.Author.Tests.{lt-ltb, le-leb, ltb-true, leb-true, eqb-true, eqb-false
 use Rattle.refusals.specs.declared.Told.{Told}
 use Rattle.refusals.specs.declared.Refusal.{Refusal}
 use Rattle.refusals.specs.declared.Refusal.TheVariants.{RowSlice, DuplicateLabel, UndefinedLabel, EmptyLoop, UnclosedLoop, UnmatchedLoopEnd, SharedLoopEnd, LoopTailNotFullWidth, BranchInLoop, LabelInLoop, NoRoomForParcels, NoRoomForLabels, NoRoomForJumps, NoRoomForLoops}
-use Rattle.refusals.specs.declared.Verdict.{Verdict}
-use Rattle.refusals.specs.declared.Verdict.TheVariants.{Good, Refused}
+use Rattle.std.specs.Prelude.{Ok, Err}
+use Rattle.refusals.specs.Answers.{Verdict}
+use Rattle.coded.specs.Coded.{Coded, read_verdict, encodes}
 use Rattle.refusals.specs.Numbers.{told_of, answer_in, answered, among}
 use Rattle.refusals.specs.Calls.{reading, encoding}
 use Rattle.refusals.proofs.Numbered.{checked}
 use Rattle.refusals.proofs.Within.{Tells, none, other}
 use Rattle.encode.proofs.Numbers.{loop_numbers}
-use Rattle.coded.specs.declared.Coded.{Coded}
-use Rattle.coded.specs.declared.Coded.TheVariants.{LoopEnd}
-use Rattle.coded.specs.Coded.{read_verdict, encodes}
+use Rattle.items.specs.declared.Item.TheVariants.{LoopEnd}
 use Rattle.places.specs.Items.{Kernel, kernel_of, about, is_entry, is_short, address, entries, nest}
 use Rattle.places.specs.Looking.{Found, opener, is_in_tail, short_one}
 use Rattle.places.specs.Verdict.{when_found, verdict}
@@ -43,11 +42,11 @@ module _ (k : Kernel) where
   record Promised (v : Verdict) : Type 0 where
     detail : Detail (checked v)
 
-  good : Promised Good
+  good : Promised (Ok tt)
   good = record { detail = λ e. absurd (omega arith) }
 
   -- a refusal of another number, a verdict of other numbers
-  another : (r : Refusal) → eqb (told_of r).number 26 ≡ false → Promised (Refused r)
+  another : (r : Refusal) → eqb (told_of r).number 26 ≡ false → Promised (Err r)
   another r f = record { detail = λ e. absurd (eqb-false (told_of r).number 26 f e) }
 
   others : (ns : List ℕ) (v : Verdict) → none (0 ∷ ns) (26 ∷ []) ≡ true → Tells ns v → Promised v
@@ -57,7 +56,7 @@ module _ (k : Kernel) where
       }
 
   -- ---- the loop end e, which closes a loop
-  module _ (e : ℕ) (closes : it e ≡ LoopEnd) (h : e < n) (d : 0 < nest it e) where
+  module _ (e : ℕ) (closes : it e ≡ Ok LoopEnd) (h : e < n) (d : 0 < nest it e) where
     latest-short : (m : LatestRow (λ q. is_short (it q) && is_in_tail it e q) e) → LatestShort k (pos (address it m.row))
     latest-short m =
         let t = and_both _ _ m.holds in
@@ -121,8 +120,8 @@ module _ (k : Kernel) where
   verdict-short lent reads codes = (verdict-holds k lent Promised holds reads codes).detail
 
   answer-told : (row : ℕ) (v : Verdict) (count : ℕ) → Promised v → Detail (answered (answer_in row v count))
-  answer-told row Good count p = λ e. absurd (omega arith)
-  answer-told row (Refused w) count p = p.detail
+  answer-told row (Ok _) count p = λ e. absurd (omega arith)
+  answer-told row (Err w) count p = p.detail
 
 -- THE THEOREM: where a build tells 26, its detail is the parcel of the latest short one of a body's last 11
 pub short-told : (rows names : List ℕ) (lent : Lent) (t : Told) (x : Lent) → Builds rows names lent t x → t.number ≡ 26 → LatestShort (kernel_of rows names) t.first

@@ -9,12 +9,10 @@ use lib.ListN.{length}
 use lib.Dec.{ltb}
 use borrow.Author.Tests.{ltb-true, ltb-false}
 use Rattle.refusals.specs.declared.Told.{Told}
-use Rattle.refusals.specs.declared.Answer.TheVariants as answer
+use Rattle.std.specs.Prelude.{Ok, Err}
+use Rattle.refusals.specs.Answers.{Verdict, Judged}
 use Rattle.refusals.specs.declared.Refusal.{Refusal}
 use Rattle.refusals.specs.declared.Refusal.TheVariants.{RowSlice, UnclosedLoop}
-use Rattle.refusals.specs.declared.Verdict.{Verdict}
-use Rattle.refusals.specs.declared.Verdict.TheVariants.{Good, Refused}
-use Rattle.refusals.specs.declared.Judged.{Judged}
 use Rattle.refusals.specs.Numbers.{alone, in_row, answer_in, answered}
 use Rattle.refusals.specs.Order.{when, said_of_row, first_in, foremost}
 use Rattle.refusals.proofs.Order.{refused-good, first-all, first-at, foremost-here, foremost-on}
@@ -48,18 +46,18 @@ module _ (k : Kernel) (rooms : Rooms) where
     pub is : Names k rooms why row
 
   abbrev Says : Judged → Type 0
-  Says j = (why : Refusal) → j.verdict ≡ Refused why → Found why j.row
+  Says j = (why : Refusal) → j.verdict ≡ Err why → Found why j.row
 
-  same : {v w : Refusal} → Refused v ≡ Refused w → v ≡ w
+  same : {v w : Refusal} → (let o : Verdict = Err v in o ≡ Err w) → v ≡ w
   same e = cc
 
-  module _ (pass : rows.verdict ≡ Good) where
+  module _ (pass : rows.verdict ≡ Ok tt) where
     jumps_say : nest it n ≡ 0 → Says (foremost (jumps ∷ []))
     jumps_say closed why e = go jumps.verdict refl
       where
         go : (v : Verdict) → jumps.verdict ≡ v → Found why (foremost (jumps ∷ [])).row
-        go Good g = absurd (refused-good why (sym e ∙ ap (λ (j : Judged). j.verdict) (foremost-on jumps [] g)))
-        go (Refused w) g =
+        go (Ok _) g = absurd (refused-good why (sym e ∙ ap (λ (j : Judged). j.verdict) (foremost-on jumps [] g)))
+        go (Err w) g =
             let f = foremost-here jumps [] g in
             let a = first-at (reach_at k) n (sym (ap (λ (j : Judged). j.verdict) f) ∙ e) in
             subst (Found why) (sym (ap (λ (j : Judged). j.row) f)) (record { one_of = a.within; is = inr (inr (first-all (verdict_at k rooms) n pass, closed, a)) })
@@ -69,7 +67,7 @@ module _ (k : Kernel) (rooms : Rooms) where
       where
         go : (b : Bool) → ltb 0 (nest it n) ≡ b → Found why (foremost (late ∷ jumps ∷ [])).row
         go true t =
-            let l : late.verdict ≡ Refused UnclosedLoop = ap (λ (b : Bool). when b UnclosedLoop) t in
+            let l : late.verdict ≡ Err UnclosedLoop = ap (λ (b : Bool). when b UnclosedLoop) t in
             let f = foremost-here late (jumps ∷ []) l in
             let o = innermost it n (ltb-true 0 (nest it n) t) in
             let w : why ≡ UnclosedLoop = same (sym e ∙ ap (λ (j : Judged). j.verdict) f ∙ l) in
@@ -79,7 +77,7 @@ module _ (k : Kernel) (rooms : Rooms) where
               is = inr (inl (first-all (verdict_at k rooms) n pass, w, record { starts = o.open_at.opens; stays = o.open_at.deep; innermost = o.level }));
             })
         go false t =
-            let l : late.verdict ≡ Good = ap (λ (b : Bool). when b UnclosedLoop) t in
+            let l : late.verdict ≡ Ok tt = ap (λ (b : Bool). when b UnclosedLoop) t in
             let f = foremost-on late (jumps ∷ []) l in
             let c = ltb-false 0 (nest it n) t in
             subst (Found why) (sym (ap (λ (j : Judged). j.row) f)) (jumps_say (omega arith) why (sym (ap (λ (j : Judged). j.verdict) f) ∙ e))
@@ -88,10 +86,10 @@ module _ (k : Kernel) (rooms : Rooms) where
   judgement-says why e = go rows.verdict refl
     where
       go : (v : Verdict) → rows.verdict ≡ v → Found why (judgement k rooms).row
-      go Good g =
+      go (Ok _) g =
           let f = foremost-on rows (late ∷ jumps ∷ []) g in
           subst (Found why) (sym (ap (λ (j : Judged). j.row) f)) (late-says g why (sym (ap (λ (j : Judged). j.verdict) f) ∙ e))
-      go (Refused w) g =
+      go (Err w) g =
           let f = foremost-here rows (late ∷ jumps ∷ []) g in
           let a = first-at (verdict_at k rooms) n (sym (ap (λ (j : Judged). j.verdict) f) ∙ e) in
           subst (Found why) (sym (ap (λ (j : Judged). j.row) f)) (record { one_of = a.within; is = inl a })
@@ -106,7 +104,7 @@ module _ (rows names : List ℕ) (lent : Lent) (t : Told) (x : Lent) (contract :
 
   -- refusal 1 names no row
   pub build_names_none : well_formed (length rows) ≡ false → t ≡ alone 1
-  build_names_none w = contract.answer ∙ ap (λ (b : Bool). answered (cond b (built k lent) (outcome (answer.Refused RowSlice 0) lent)).answer) w
+  build_names_none w = contract.answer ∙ ap (λ (b : Bool). answered (cond b (built k lent) (outcome (Err (record { why = RowSlice; row = 0 })) lent)).answer) w
 
   module _ (formed : well_formed (length rows) ≡ true) where
     said : (v : Verdict) → j.verdict ≡ v → t ≡ answered (answer_in j.row v (place (row_at rows names) (row_count rows)))
@@ -118,18 +116,18 @@ module _ (rows names : List ℕ) (lent : Lent) (t : Told) (x : Lent) (contract :
     build_names_row refused = go j.verdict refl
       where
         go : (v : Verdict) → j.verdict ≡ v → NamesRow rows names lent t
-        go Good e = absurd (refused (ap (λ (o : Told). o.number) (said Good e)))
-        go (Refused why) e =
+        go (Ok _) e = absurd (refused (ap (λ (o : Told). o.number) (said (Ok tt) e)))
+        go (Err why) e =
             let f = judgement-says k (rooms_of_lent lent) why e in
-            record { why = why; row = j.row; told = said (Refused why) e; one_of = f.one_of; is = f.is }
+            record { why = why; row = j.row; told = said (Err why) e; one_of = f.one_of; is = f.is }
 
     -- and the answer without its row is the answer of before
     pub build_told_before : in_row 0 t ≡ told_before (verdict_before k (rooms_of_lent lent)) (place (row_at rows names) (row_count rows))
     build_told_before = go j.verdict refl
       where
         go : (v : Verdict) → j.verdict ≡ v → in_row 0 t ≡ told_before (verdict_before k (rooms_of_lent lent)) (place (row_at rows names) (row_count rows))
-        go Good e = ap (in_row 0) (said Good e) ∙ sym (ap (λ (v : Verdict). told_before v (place (row_at rows names) (row_count rows))) e)
-        go (Refused why) e =
-            ap (in_row 0) (said (Refused why) e)
+        go (Ok _) e = ap (in_row 0) (said (Ok tt) e) ∙ sym (ap (λ (v : Verdict). told_before v (place (row_at rows names) (row_count rows))) e)
+        go (Err why) e =
+            ap (in_row 0) (said (Err why) e)
             ∙ without_row j.row why
             ∙ sym (ap (λ (v : Verdict). told_before v (place (row_at rows names) (row_count rows))) e)

@@ -1,5 +1,5 @@
 -- Demand 3: what stands in the parcels of an accepted kernel, and what it means that a jump or a loop start carries its offset.
-use Rattle.std.specs.Prelude.{◌≡◌, false, List, ◌++◌, ℕ, ◌-◌, ◌<◌, take, drop, ℤ, pos, ◌-ℤ◌}
+use Rattle.std.specs.Prelude.{◌≡◌, false, List, ◌++◌, ℕ, ◌-◌, ◌<◌, take, drop, ℤ, pos, ◌-ℤ◌, Ok, Result}
 use Rattle.fields.specs.Pack.{field}
 use Rattle.fields.specs.Parcels.{cut, joined}
 use Rattle.signs.specs.Signs.{signed_in}
@@ -7,10 +7,11 @@ use Rattle.items.specs.declared.Condition.{Condition}
 use Rattle.items.specs.declared.LoopCount.{LoopCount}
 use Rattle.items.specs.declared.LoopMode.{LoopMode}
 use Rattle.encode.specs.declared.Form.{Form}
+use Rattle.refusals.specs.declared.Refusal.{Refusal}
 use Rattle.encode.specs.declared.Form.TheVariants.{Word}
 use Rattle.encode.specs.Encoding.{form_parcels, jump_form, loop_form}
 use Rattle.coded.specs.declared.Coding.{Coding}
-use Rattle.coded.specs.declared.Coded.TheVariants.{Instruction, Jump, LoopBegin}
+use Rattle.items.specs.declared.Item.TheVariants.{Instruction, Jump, LoopBegin}
 use Rattle.places.specs.Items.{Kernel, kernel_of, size_of, size, place, address}
 use Rattle.places.specs.Left.{Lent, rooms_of_lent, left, gather}
 use Rattle.rules.specs.Rules.{Aimed, Pair, Last, Valid}
@@ -24,9 +25,9 @@ abbrev pub offset_at : ℕ → ℕ → List ℕ → ℤ
 offset_at n place parcels = signed_in n (field (n - 1) 0 (joined (take 3 (drop place parcels))))
 
 -- a form is a word, whose three parcels stand at a place
-pub record WordAt (f : Form) (place : ℕ) (parcels : List ℕ) : Type 0 where
+pub record WordAt (f : Result Form Refusal) (place : ℕ) (parcels : List ℕ) : Type 0 where
   pub word : ℕ
-  pub is : f ≡ Word word
+  pub is : f ≡ Ok (Word word)
   pub stands : take 3 (drop place parcels) ≡ cut 3 word
 
 module _ (k : Kernel) (P : List ℕ) where
@@ -56,6 +57,6 @@ module _ (k : Kernel) (P : List ℕ) where
     pub in_order : P ≡ gather (λ i. (left k i (it i)).parcels) n ++ drop (place it n) p
     pub at_place : (i : ℕ) → i < n → take (size (it i)) (drop (place it i) P) ≡ (left k i (it i)).parcels
     -- an instruction's, each labelled jump's, each loop start's
-    pub instruction : (i : ℕ) (c : Coding) → i < n → it i ≡ Instruction c → take (size_of c.form) (drop (place it i) P) ≡ form_parcels c.form
-    pub jump : (i : ℕ) (c : Condition) (a b : ℕ) → i < n → it i ≡ Jump c a b → JumpCarries i c a b
-    pub loop : (b : ℕ) (c : LoopCount) (m : LoopMode) → b < n → it b ≡ LoopBegin c m → LoopCarries b c m
+    pub instruction : (i : ℕ) (c : Coding) → i < n → it i ≡ Ok (Instruction c) → take (size_of c.form) (drop (place it i) P) ≡ form_parcels c.form
+    pub jump : (i : ℕ) (c : Condition) (a b : ℕ) → i < n → it i ≡ Ok (Jump c a b) → JumpCarries i c a b
+    pub loop : (b : ℕ) (c : LoopCount) (m : LoopMode) → b < n → it b ≡ Ok (LoopBegin c m) → LoopCarries b c m

@@ -1,16 +1,14 @@
 -- Document 01, "Rules of a valid kernel": over the items it 0, .., it (n - 1) of a list and their places alone.
-use Rattle.std.specs.Prelude.{◌≡◌, List, ℕ, suc, ◌+◌, ◌≤◌, ◌<◌, take, drop, false}
+use Rattle.std.specs.Prelude.{◌≡◌, List, ℕ, suc, ◌+◌, ◌≤◌, ◌<◌, take, drop, false, Ok, Err}
 use Rattle.refusals.specs.declared.Refusal.{Refusal}
-use Rattle.refusals.specs.declared.Verdict.TheVariants.{Good}
 use Rattle.items.specs.Kinds.{is_branch}
 use Rattle.items.specs.declared.Condition.{Condition}
 use Rattle.items.specs.declared.LoopCount.{LoopCount}
 use Rattle.items.specs.declared.LoopCount.TheVariants.{Immediate}
 use Rattle.items.specs.declared.LoopMode.{LoopMode}
-use Rattle.coded.specs.declared.Coded.TheVariants.{Instruction, Label, Jump, LoopBegin, LoopEnd}
+use Rattle.items.specs.declared.Item.TheVariants.{Instruction, Label, Jump, LoopBegin, LoopEnd}
 use Rattle.encode.specs.Encoding.{form_verdict}
 use Rattle.coded.specs.declared.Coding.{Coding}
-use Rattle.coded.specs.declared.Coded.TheVariants as coded
 use Rattle.places.specs.Items.{Kernel, size, is_entry, is_label, is_jump, total, place, address, entries, nest}
 use Rattle.places.specs.declared.Rooms.{Rooms}
 
@@ -23,8 +21,8 @@ module _ (k : Kernel) where
 
   -- 1. Every row is constructible and every instruction encodes.
   pub record Rule1 : Type 0 where
-    pub constructible : (i : ℕ) → i < n → (r : Refusal) → it i ≡ coded.Refused r → ⊥
-    pub encodes : (i : ℕ) → i < n → (c : Coding) → it i ≡ Instruction c → form_verdict c.form ≡ Good
+    pub constructible : (i : ℕ) → i < n → (r : Refusal) → it i ≡ Err r → ⊥
+    pub encodes : (i : ℕ) → i < n → (c : Coding) → it i ≡ Ok (Instruction c) → form_verdict c.form ≡ Ok tt
 
   -- the jump at i has a label: its row and name
   pub record Aimed (i a b : ℕ) : Type 0 where
@@ -32,7 +30,7 @@ module _ (k : Kernel) where
     pub start : ℕ
     pub length : ℕ
     pub within : row < n
-    pub label : it row ≡ Label start length
+    pub label : it row ≡ Ok (Label start length)
     pub name : SameName names start length a b
     -- label minus jump start lies in -0x800000 .. 0x7fffff
     pub not_below : address it i ≤ address it row + 0x80_0000
@@ -40,15 +38,15 @@ module _ (k : Kernel) where
 
   -- 2. No label name occurs twice; every jump's name is a label somewhere in the list, within reach.
   pub record Rule2 : Type 0 where
-    pub once : (i j a b c d : ℕ) → i < n → j < n → it i ≡ Label a b → it j ≡ Label c d → SameName names a b c d → i ≡ j
-    pub aimed : (i : ℕ) → i < n → (c : Condition) (a b : ℕ) → it i ≡ Jump c a b → Aimed i a b
+    pub once : (i j a b c d : ℕ) → i < n → j < n → it i ≡ Ok (Label a b) → it j ≡ Ok (Label c d) → SameName names a b c d → i ≡ j
+    pub aimed : (i : ℕ) → i < n → (c : Condition) (a b : ℕ) → it i ≡ Ok (Jump c a b) → Aimed i a b
 
   -- the loop start b and the loop end e are a pair of brackets: what stands between them lies deeper
   pub record Pair (b e : ℕ) : Type 0 where
     pub count : LoopCount
     pub mode : LoopMode
-    pub opens : it b ≡ LoopBegin count mode
-    pub closes : it e ≡ LoopEnd
+    pub opens : it b ≡ Ok (LoopBegin count mode)
+    pub closes : it e ≡ Ok LoopEnd
     pub order : b < e
     pub before_end : e < n
     pub level : nest it e ≡ nest it b + 1
@@ -64,11 +62,11 @@ module _ (k : Kernel) where
   -- 3. Loop starts and ends pair as brackets. Between a pair stand no label, no jump, no `JumpRelative`, `CJump` or
   -- `LeafReturn`, and at least one instruction. A nested loop start counts as an instruction of the outer body.
   pub record Rule3 : Type 0 where
-    pub matched : (e : ℕ) → e < n → it e ≡ LoopEnd → 0 < nest it e
+    pub matched : (e : ℕ) → e < n → it e ≡ Ok LoopEnd → 0 < nest it e
     pub closed : nest it n ≡ 0
-    pub no_label : (b e q a c : ℕ) → Pair b e → b < q → q < e → it q ≡ Label a c → ⊥
-    pub no_jump : (b e q : ℕ) (c : Condition) (a d : ℕ) → Pair b e → b < q → q < e → it q ≡ Jump c a d → ⊥
-    pub no_branch : (b e q : ℕ) (c : Coding) → Pair b e → b < q → q < e → it q ≡ Instruction c → is_branch c.kind ≡ false
+    pub no_label : (b e q a c : ℕ) → Pair b e → b < q → q < e → it q ≡ Ok (Label a c) → ⊥
+    pub no_jump : (b e q : ℕ) (c : Condition) (a d : ℕ) → Pair b e → b < q → q < e → it q ≡ Ok (Jump c a d) → ⊥
+    pub no_branch : (b e q : ℕ) (c : Coding) → Pair b e → b < q → q < e → it q ≡ Ok (Instruction c) → is_branch c.kind ≡ false
     pub some : (b e : ℕ) → Pair b e → Body b e
 
   -- row q is the last instruction before row e: as many stand before e as up to q
@@ -85,7 +83,7 @@ module _ (k : Kernel) where
 
   -- 5. Immediate counts are not 0; a loop's offset is at most 0x3fffff.
   pub record Rule5 : Type 0 where
-    pub counted : (b c : ℕ) (m : LoopMode) → b < n → it b ≡ LoopBegin (Immediate c) m → 0 < c
+    pub counted : (b c : ℕ) (m : LoopMode) → b < n → it b ≡ Ok (LoopBegin (Immediate c) m) → 0 < c
     pub near : (b e q : ℕ) → Pair b e → Last q e → address it q ≤ address it b + 0x3f_ffff
 
   -- 6. Totals of parcels, labels, jumps and the deepest nesting fit their rooms.

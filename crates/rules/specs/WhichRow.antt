@@ -1,10 +1,9 @@
 -- Document 02, wish 3: which row a refused build names; and what it told before it named one.
-use Rattle.std.specs.Prelude.{◌≡◌, ◌⊎◌, List, [], ◌∷◌, ℕ, ◌+◌, ◌≤◌, ◌<◌, ltb}
+use Rattle.std.specs.Prelude.{◌≡◌, ◌⊎◌, List, [], ◌∷◌, ℕ, ◌+◌, ◌≤◌, ◌<◌, ltb, Ok, Err}
 use Rattle.refusals.specs.declared.Told.{Told}
 use Rattle.refusals.specs.declared.Refusal.{Refusal}
 use Rattle.refusals.specs.declared.Refusal.TheVariants.{UnclosedLoop}
-use Rattle.refusals.specs.declared.Verdict.{Verdict}
-use Rattle.refusals.specs.declared.Verdict.TheVariants.{Good, Refused}
+use Rattle.refusals.specs.Answers.{Verdict}
 use Rattle.refusals.specs.Numbers.{counted, told_of, in_row}
 use Rattle.refusals.specs.Order.{when, first, first_of, FirstAt}
 use Rattle.places.specs.declared.Rooms.{Rooms}
@@ -21,7 +20,7 @@ module _ (k : Kernel) where
 
   module _ (rooms : Rooms) where
     abbrev pub RowsPass : Type 0
-    RowsPass = (i : ℕ) → i < k.n → verdict_at k rooms i ≡ Good
+    RowsPass = (i : ℕ) → i < k.n → verdict_at k rooms i ≡ Ok tt
 
     -- the first row at fault; or 23, once all rows pass; or, once every loop is closed, the first jump that does not reach its label
     abbrev pub Names : Refusal → ℕ → Type 0
@@ -41,8 +40,8 @@ module _ (k : Kernel) where
 
 -- and its answer in numbers
 abbrev pub told_before : Verdict → ℕ → Told
-told_before Good n = counted n
-told_before (Refused r) n = told_of r
+told_before (Ok _) n = counted n
+told_before (Err r) n = told_of r
 
 -- what is told is a refusal that names one of the list's rows, and which
 pub record NamesRow (rows names : List ℕ) (lent : Lent) (t : Told) : Type 0 where

@@ -1,18 +1,18 @@
 -- An instrument of the short way: a run of rows that are seen, row by row.
-use Rattle.std.specs.Prelude.{◌≡◌, Bool, true, false, cond, ◌⊎◌, List, ℕ, zero, suc, ◌+◌, ◌*◌, ◌≤◌, ◌<◌, take, drop, eqb}
+use Rattle.std.specs.Bool.{then_some}
+use Rattle.std.specs.Prelude.{◌≡◌, Bool, false, cond, Option, Some, None, List, ℕ, zero, suc, ◌+◌, ◌*◌, ◌≤◌, ◌<◌, take, drop, eqb, Ok, Result}
 use Rattle.std.proofs.lemmas.List.Edits.{sets}
-use Rattle.refusals.specs.declared.Verdict.TheVariants.{Good}
-use Rattle.items.specs.Kinds.{kind_of, is_branch}
 use Rattle.encode.specs.declared.Form.{Form}
+use Rattle.refusals.specs.declared.Refusal.{Refusal}
+use Rattle.items.specs.Kinds.{kind_of, is_branch}
 use Rattle.encode.specs.declared.Form.TheVariants as form
 use Rattle.encode.specs.Encoding.{form_parcels, form_verdict}
 use Rattle.rows.specs.Rows.{row_width, most_rows}
 use Rattle.combined.specs.declared.Glance.{Glance}
-use Rattle.combined.specs.declared.Glance.TheVariants.{Short, Pair, Word, Branch, Leaf, Other}
+use Rattle.combined.specs.declared.Glance.TheVariants.{Short, Pair, Word, Branch, Leaf}
 use Rattle.combined.specs.Right.{Seen}
 use Rattle.places.specs.Items.{size_of, row_count, most_parcels}
 use Rattle.runs.specs.declared.Run.{Run}
-use Rattle.runs.specs.declared.Turn.{Turn}
 
 -- past a row of n parcels
 abbrev pub took : ℕ → Run → Run
@@ -26,28 +26,13 @@ took n x =
       shortat = cond (eqb n 3) x.shortat x.at;
     }
 
-abbrev pub onward : Form → Run → Turn
-onward f x = record { run = took (size_of f) x; more = true }
-
-abbrev pub stopped : Run → Turn
-stopped x = record { run = x; more = false }
-
--- by the glance, where branches are free to stand or not
-abbrev pub turn_for : Bool → Glance → Run → Turn
-turn_for free (Short w) x = onward (form.Short w) x
-turn_for free (Pair w) x = onward (form.Pair w) x
-turn_for free (Word w) x = onward (form.Word w) x
-turn_for free (Branch w) x = cond free (onward (form.Word w) x) (stopped x)
-turn_for free Leaf x = cond free (onward form.Leaf x) (stopped x)
-turn_for free Other x = stopped x
-
-abbrev pub parcels_by : Bool → Glance → Run → List ℕ → List ℕ
-parcels_by free (Short w) x p = sets p x.at (form_parcels (form.Short w))
-parcels_by free (Pair w) x p = sets p x.at (form_parcels (form.Pair w))
-parcels_by free (Word w) x p = sets p x.at (form_parcels (form.Word w))
-parcels_by free (Branch w) x p = cond free (sets p x.at (form_parcels (form.Word w))) p
-parcels_by free Leaf x p = cond free (sets p x.at (form_parcels form.Leaf)) p
-parcels_by free Other x p = p
+-- the form of a glance, where branches are free to stand or not
+abbrev pub form_seen : Bool → Glance → Option Form
+form_seen free (Short w) = Some (form.Short w)
+form_seen free (Pair w) = Some (form.Pair w)
+form_seen free (Word w) = Some (form.Word w)
+form_seen free (Branch w) = then_some free (form.Word w)
+form_seen free Leaf = then_some free form.Leaf
 
 -- row i of a slice of rows
 abbrev pub row_in : List ℕ → ℕ → List ℕ
@@ -55,18 +40,19 @@ row_in rows i = take row_width (drop (i * row_width) rows)
 
 -- the next row is taken: it is seen, fits, and is no branch where none may stand
 pub record Taken (rows : List ℕ) (room : ℕ) (free : Bool) (x : Run) (p : List ℕ) (y : Run) (q : List ℕ) : Type 0 where
-  pub form : Form
+  pub form : Result Form Refusal
   pub seen : Seen (row_in rows x.row) form
   pub stays : free ≡ false → is_branch (kind_of seen.instruction) ≡ false
-  pub encodes : form_verdict form ≡ Good
+  pub encodes : form_verdict form ≡ Ok tt
   pub left : x.row < row_count rows
   pub roomy : x.at + 6 ≤ room
   pub on : y ≡ took (size_of form) x
   pub parcels : q ≡ sets p x.at (form_parcels form)
 
--- a turn takes the next row, or ends the run
-abbrev pub Turned : List ℕ → ℕ → Bool → Run → List ℕ → Turn → List ℕ → Type 0
-Turned rows room free x p t q = ((t.more ≡ true) × Taken rows room free x p t.run q) ⊎ ((t ≡ stopped x) × (q ≡ p))
+-- a turn at a row: of whatever rows it is the next one, it is taken; or the run ends, and nothing is written
+abbrev pub Turned : List ℕ → ℕ → Bool → Run → List ℕ → Option Run → List ℕ → Type 0
+Turned row room free x p (Some y) q = (rows : List ℕ) → row ≡ row_in rows x.row → x.row < row_count rows → Taken rows room free x p y q
+Turned row room free x p None q = q ≡ p
 
 -- a row more than so far
 pub record Further (rows : List ℕ) (room : ℕ) (free : Bool) (So-far : Run → List ℕ → Type 0) (y : Run) (q : List ℕ) : Type 0 where

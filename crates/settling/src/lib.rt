@@ -13,10 +13,9 @@ ghost use Rattle.coded.specs.Fine.{CodedFine};
 ghost use Rattle.settling.specs.Settling.{aim_form, Settles, AimFine, AimsFine, Aims};
 
 use coded::Coded;
-use items::Condition;
+use items::{Condition, Item};
 use places::JUMP_WIDTH;
-use refusals::{Judged, Refusal, Verdict};
-use tables::Sought;
+use refusals::{Refusal, Refused, Verdict};
 
 // The word of a jump at place p to address q stands there, if it encodes.
 #[tactic(auto, unfolding(crate::specs::Settling::aim_form))]
@@ -25,15 +24,9 @@ fn settle(condition: Condition, p: usize, q: u32, parcels: &mut [u16]) -> Verdic
     ensures { (result ≡ form_verdict (aim_form condition p q)) × (parcels.new ≡ if_good result (sets parcels.old p (settled (aim_form condition p q))) parcels.old) }
 {
     let form = encode::jump_form(condition, signs::apart(q as usize, p), false);
-    let encodes = encode::form_verdict(form);
-    match encodes {
-        Verdict::Refused(r) => {
-            return Verdict::Refused(r);
-        }
-        Verdict::Good => {}
-    }
+    encode::form_verdict(form)?;
     writer::mend(parcels, p, p, encode::settled(form));
-    Verdict::Good
+    Ok(())
 }
 
 // The waiting jump at place p, as its row says: 12 before 9, or the word to its label stands there.
@@ -49,22 +42,22 @@ fn aim_coded(
     ensures { Settles names.now labels.now n p coded parcels.old result parcels.new }
 {
     match coded {
-        Coded::Jump {
-            condition,
-            start,
-            length,
-        } => {
-            let found = tables::names::find(names, labels, n, start as usize, length as usize);
-            match found {
-                Sought::At(q) => settle(condition, p, q, parcels),
-                Sought::Nowhere => Verdict::Refused(Refusal::UndefinedLabel(start, length)),
-            }
-        }
-        _ => Verdict::Good,
+        Ok(
+            Item::Jump {
+                condition,
+                start,
+                length,
+            },
+        ) => match tables::names::find(names, labels, n, start as usize, length as usize) {
+            Some(q) => settle(condition, p, q, parcels),
+            None => Err(Refusal::UndefinedLabel(start, length)),
+        },
+        _ => Ok(()),
     }
 }
 
-// The waiting jumps in turn, up to the first that is refused; the refusal names its row.
+// The waiting jumps in turn, up to the first that is refused; the refusal names its row. The tables are flat, with the entries in use
+// counted beside them, as `lhodrupesh_build` is lent them.
 pub fn aim_all(
     rows: &[u32],
     names: &[u8],
@@ -73,29 +66,17 @@ pub fn aim_all(
     n: usize,
     jumps: &[u32],
     count: usize,
-) -> Judged
+) -> Result<(), Refused>
     requires { AimsFine (kernel_of rows.now names.now) labels.now n jumps.now count (length parcels.old) }
     ensures { Aims (kernel_of rows.now names.now) labels.now n jumps.now count parcels.old result parcels.new }
 {
-    let mut k = 0;
-    while k < count {
+    for k in 0..count {
         let p = jumps[JUMP_WIDTH * k] as usize;
         let row = jumps[JUMP_WIDTH * k + 1];
         let coded = coded::coded_at(rows, row as usize, names.len());
-        let one = aim_coded(coded, names, parcels, labels, n, p);
-        match one {
-            Verdict::Refused(r) => {
-                return Judged {
-                    verdict: Verdict::Refused(r),
-                    row,
-                };
-            }
-            Verdict::Good => {}
+        if let Err(why) = aim_coded(coded, names, parcels, labels, n, p) {
+            return Err(why.at(row));
         }
-        k += 1;
     }
-    Judged {
-        verdict: Verdict::Good,
-        row: 0,
-    }
+    Ok(())
 }

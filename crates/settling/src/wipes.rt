@@ -18,7 +18,7 @@ pub fn clear(
     requires { Used at n m (length parcels.old) (length labels.old) (length jumps.old) }
     ensures { (parcels.new ≡ zeroed at parcels.old) × (labels.new ≡ zeroed (label_width * n) labels.old) × (jumps.new ≡ zeroed (jump_width * m) jumps.old) }
 {
-    tables::wipe16(parcels, at);
-    tables::wipe32(labels, LABEL_WIDTH * n);
-    tables::wipe32(jumps, JUMP_WIDTH * m);
+    parcels[..at].fill(0);
+    labels[..LABEL_WIDTH * n].fill(0);
+    jumps[..JUMP_WIDTH * m].fill(0);
 }

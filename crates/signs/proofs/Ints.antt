@@ -1,39 +1,19 @@
 -- Laws of signed numbers that are folded into a field.
-use Prim.Native.Nat.{ℕ, suc, zero, ◌-◌, ◌*◌, ◌≤◌, ◌<◌, ◌^◌}
+use Prim.Native.Nat.{ℕ, suc, zero, ◌+◌, ◌-◌, ◌*◌, ◌%◌, ◌≤◌, ◌<◌, ◌^◌}
 use native.Mathlib.Omega.{arith}
-use mathlib.Core.Path.{◌≡◌, refl, sym, ap, ap₂, ◌∙◌}
+use mathlib.Core.Path.{◌≡◌, refl, sym, ap, ◌∙◌}
 use mathlib.Core.Bool.{Bool, true, false, cond, ◌&&◌}
-use lib.IntN.{ℤ, pos, negsuc, nat_abs, ◌+ℤ◌, ◌-ℤ◌}
-use lib.Signed.{mag, lt_z, le_z, non_neg}
-use lib.Dec.{T, ltb, leb}
+use lib.IntN.{ℤ, pos, negsuc, ◌-ℤ◌}
+use lib.Signed.{mag}
+use lib.Dec.{ltb, leb}
 use lib.Pow.{pow_pos}
 use mir.Syntax.{w64}
-use mir.Val.{SFits, Fits, to_z, of_z}
-use mir.Facts.{to_z-of_z}
-use borrow.Author.Tests.{le-ltb, lt-ltb, ltb-true, leb-true}
+use mir.Val.{of_z}
+use Rattle.std.proofs.lemmas.Nat.{pow-add, mod-mul-add}
+use Rattle.std.proofs.Math.Nat.{mod-eq_of_lt}
+use Rattle.std.proofs.Math.Pow.{pow-lt}
+use borrow.Author.Tests.{leb-false, le-ltb, lt-ltb, leb-true}
 use Rattle.signs.specs.Signs.{folded, signed_in, within}
-
--- what stands for a signed number among m numbers; in n bits there are 2 ^ n
-abbrev pub among : ℕ → ℤ → ℕ
-among m (pos k) = k
-among m (negsuc k) = m - suc k
-
-pub among-folded : (m n : ℕ) (z : ℤ) → m ≡ 2 ^ n → among m z ≡ folded n z
-among-folded m n (pos k) e = refl
-among-folded m n (negsuc k) e = ap (λ (l : ℕ). l - suc k) e
-
--- a negative number and their count
-pub sum_neg : (m : ℕ) (z : ℤ) → lt_z z (pos 0) ≡ true → mag z < m → z +ℤ pos m ≡ pos (among m z)
-sum_neg m (pos k) t h = let z : k < 0 = ltb-true k 0 t in absurd (omega arith)
-sum_neg m (negsuc k) t h = rw (le-ltb m (suc k) (omega arith))
-
-pub kept : (m : ℕ) (z : ℤ) → lt_z z (pos 0) ≡ false → z ≡ pos (among m z)
-kept m (pos k) t = refl
-kept m (negsuc k) t = cc
-
-pub among_lt : (m : ℕ) (z : ℤ) → mag z < m → among m z < m
-among_lt m (pos k) h = h
-among_lt m (negsuc k) h = omega arith
 
 either : (m : ℕ) (t : Bool) (x y : ℤ) → mag x < m → mag y < m → mag (cond t x y) < m
 either m true x y hx hy = hx
@@ -43,20 +23,6 @@ either m false x y hx hy = hy
 pub apart_mag : (m a b : ℕ) → a < m → b < m → mag (pos a -ℤ pos b) < m
 apart_mag m a zero ha hb = omega arith
 apart_mag m a (suc b) ha hb = either m (ltb a (suc b)) (negsuc (suc b - suc a)) (pos (a - suc b)) (omega arith) (omega arith)
-
--- what the machine's tests say, of the numbers
-pub same_le : {a b : ℤ} → SFits w64 a → SFits w64 b → le_z (to_z w64 (of_z w64 a)) (to_z w64 (of_z w64 b)) ≡ le_z a b
-same_le fa fb = ap₂ le_z (to_z-of_z fa) (to_z-of_z fb)
-
-pub same_lt : {a b : ℤ} → SFits w64 a → SFits w64 b → lt_z (to_z w64 (of_z w64 a)) (to_z w64 (of_z w64 b)) ≡ lt_z a b
-same_lt fa fb = ap₂ lt_z (to_z-of_z fa) (to_z-of_z fb)
-
-pub sfits_pos : {z : ℤ} {n : ℕ} → z ≡ pos n → n < 2 ^ 63 → SFits w64 z
-sfits_pos {z} {n} e h = rw e (record { sfits = h })
-
--- a number that is not negative, cast
-pub cast_pos : {z : ℤ} {n : ℕ} → z ≡ pos n → n < 2 ^ 63 → T (non_neg z) × Fits w64 (nat_abs z)
-cast_pos {z} {n} e h = rw e (tt, record { fits = omega arith })
 
 and_true : (b : Bool) → (b && true) ≡ b
 and_true true = refl
@@ -81,3 +47,22 @@ folded_back n (negsuc k) t =
     let p = pow_pos n in
     let m = within_mag (2 ^ n - 1) (negsuc k) t in
     rw (le-ltb (2 * (2 ^ suc n - suc k)) (2 ^ suc n) (omega arith)) (ap negsuc (omega arith))
+
+-- ---- the last n of a number's 64 bits fold it
+few : (n : ℕ) (t : Bool) → leb n 32 ≡ t → 2 ^ n ≤ 2 ^ 32 → n ≤ 32
+few n true e h = leb-true n 32 e
+few n false e h = let over : 32 < n = leb-false n 32 e in let p = pow-lt over in absurd (omega arith)
+
+last-of : (q m k : ℕ) → 0 < q → k < m → (q * m - suc k) % m ≡ m - suc k
+last-of zero m k more h = absurd (omega arith)
+last-of (suc q) m k more h =
+    let e : suc q * m - suc k ≡ q * m + (m - suc k) = omega arith in
+    rw e (mod-mul-add q m (m - suc k) (omega arith))
+
+pub wrapped : (n : ℕ) (z : ℤ) → mag z < 2 ^ n → 2 ^ n ≤ 2 ^ 32 → of_z w64 z % 2 ^ n ≡ folded n z
+wrapped n (pos k) h le = mod-eq_of_lt h
+wrapped n (negsuc k) h le =
+    let few = few n (leb n 32) refl le in
+    let whole : 64 - n + n ≡ 64 = omega arith in
+    let e : 2 ^ 64 ≡ 2 ^ (64 - n) * 2 ^ n = rw (← pow-add 2 (64 - n) n, whole) in
+    rw e (last-of (2 ^ (64 - n)) (2 ^ n) k (pow_pos (64 - n)) h)

@@ -11,11 +11,7 @@ ghost use Rattle.signs.specs.Signs.{folded, within};
 pub fn signed(v: u32) -> i32
     ensures { result ≡ to_z w32 v }
 {
-    if v < 0x8000_0000 {
-        v as i32
-    } else {
-        -1 - ((0xffff_ffff - v) as i32)
-    }
+    v.cast_signed()
 }
 
 // A signed number in a field of `size` numbers, that is of n bits where `size` is 2 ^ n, as two's complement.
@@ -23,18 +19,14 @@ pub fn fold(z: i64, size: u64) -> u64
     requires { (mag z < size) × (size ≤ 2 ^ 32) }
     ensures { ((n : ℕ) → size ≡ 2 ^ n → result ≡ folded n z) × (result < size) }
 {
-    if z < 0 {
-        (z + size as i64) as u64
-    } else {
-        z as u64
-    }
+    z.cast_unsigned() % size
 }
 
 // Whether a number lies from `low` to `high`, both in.
 pub fn within(low: i64, high: i64, z: i64) -> bool
     ensures { result ≡ within low high z }
 {
-    low <= z && z <= high
+    (low..=high).contains(&z)
 }
 
 // The signed way from one place to another.

@@ -9,9 +9,9 @@ use native.Mathlib.Numerals.{add-one}
 use lib.ListN.{length, get_or, take, drop, length-append, length-drop, drop_of_length-le, get_or-append}
 use lib.Seq.{drop-cons, get_or_at, take_all, take-append-le, drop-append-le, drop-append-add}
 use Rattle.rows.specs.Rows.{row_width, read_of}
-use Rattle.coded.specs.declared.Coded.{Coded}
-use Rattle.coded.specs.declared.Coded.TheVariants.{LoopEnd}
-use Rattle.coded.specs.Coded.{coded_of}
+use Rattle.std.specs.Prelude.{Ok}
+use Rattle.coded.specs.Coded.{Coded, coded_of}
+use Rattle.items.specs.declared.Item.TheVariants.{LoopEnd}
 use Rattle.places.specs.Items.{row_at, row_count}
 use Rattle.slots.specs.Slots.{items}
 
@@ -20,15 +20,15 @@ module _ (it : ℕ → Coded) where
   items-length zero = refl
   items-length (suc n) = length-append (items it n) (it n ∷ []) ∙ (let w : length (items it n) + 1 ≡ suc n = omega (arith, items-length n) in w)
 
-  pub items_at : (n i : ℕ) → i < n → get_or (items it n) i LoopEnd ≡ it i
+  pub items_at : (n i : ℕ) → i < n → get_or (items it n) i (Ok LoopEnd) ≡ it i
   items_at zero i h = absurd (omega arith)
   items_at (suc n) i h =
-      ⊎_elim (λ e. get_or_at (items it n) (it n) [] LoopEnd i (items-length n ∙ (let w : n ≡ i = omega arith in w)) ∙ ap it (let w : n ≡ i = omega arith in w))
-      (λ l. get_or-append (items it n) (it n ∷ []) LoopEnd i (rw items-length l) ∙ items_at n i l)
+      ⊎_elim (λ e. get_or_at (items it n) (it n) [] (Ok LoopEnd) i (items-length n ∙ (let w : n ≡ i = omega arith in w)) ∙ ap it (let w : n ≡ i = omega arith in w))
+      (λ l. get_or-append (items it n) (it n ∷ []) (Ok LoopEnd) i (rw items-length l) ∙ items_at n i l)
       (eq-or-lt_of_le (let w : i ≤ n = omega arith in w))
 
   pub items-from : (n i : ℕ) → i < n → drop i (items it n) ≡ it i ∷ drop (i + 1) (items it n)
-  items-from n i l = drop-cons (items it n) i LoopEnd (rw items-length l) ∙ rw (items_at n i l, add-one i)
+  items-from n i l = drop-cons (items it n) i (Ok LoopEnd) (rw items-length l) ∙ rw (items_at n i l, add-one i)
 
   pub items-end : (n : ℕ) → drop n (items it n) ≡ []
   items-end n = drop_of_length-le (items it n) {i = n} (omega (arith, items-length n))

@@ -6,9 +6,8 @@ use mathlib.Core.List.{List, [], ◌∷◌, ◌++◌}
 use Prim.Native.Nat.{ℕ, zero, suc, ◌<◌}
 use native.Mathlib.Omega.{arith}
 use lib.ListN.{length, get_or, drop}
-use Rattle.refusals.specs.declared.Verdict.TheVariants.{Good}
-use Rattle.coded.specs.declared.Coded.{Coded}
-use Rattle.coded.specs.Coded.{read_verdict}
+use Rattle.std.specs.Prelude.{Ok}
+use Rattle.coded.specs.Coded.{Coded, read_verdict}
 use Rattle.slots.specs.Slots.{opens, label, unlabelled, filled}
 use Rattle.slots.proofs.Others.{label-reads}
 
@@ -30,23 +29,23 @@ unlabelled-twice [] = refl
 unlabelled-twice (x ∷ xs) = twice-by x (unlabelled xs) (unlabelled-twice xs) (label x) refl
 
 -- an item before these is read, and 33 is not met there
-abbrev pub Ok : Coded → List Coded → Type 0
-Ok x xs = (read_verdict x ≡ Good) × ((opens x && not (filled (unlabelled xs))) ≡ false)
+abbrev pub Sound : Coded → List Coded → Type 0
+Sound x xs = (read_verdict x ≡ Ok tt) × ((opens x && not (filled (unlabelled xs))) ≡ false)
 
 abbrev pub Fine : List Coded → Type 0
 Fine [] = Unit {0}
-Fine (x ∷ xs) = (ok : Ok x xs) × Fine xs
+Fine (x ∷ xs) = (ok : Sound x xs) × Fine xs
 
-pub fine-at : (d : Coded) (xs : List Coded) → Fine xs → (k : ℕ) → k < length xs → Ok (get_or xs k d) (drop (suc k) xs)
+pub fine-at : (d : Coded) (xs : List Coded) → Fine xs → (k : ℕ) → k < length xs → Sound (get_or xs k d) (drop (suc k) xs)
 fine-at d [] f k l = absurd (omega arith)
 fine-at d (x ∷ xs) f zero l = f.0
 fine-at d (x ∷ xs) f (suc k) l = fine-at d xs f.1 k (omega arith)
 
-pub at-fine : (d : Coded) (xs : List Coded) → ((k : ℕ) → k < length xs → Ok (get_or xs k d) (drop (suc k) xs)) → Fine xs
+pub at-fine : (d : Coded) (xs : List Coded) → ((k : ℕ) → k < length xs → Sound (get_or xs k d) (drop (suc k) xs)) → Fine xs
 at-fine d [] h = tt
 at-fine d (x ∷ xs) h = (h 0 (omega arith), at-fine d xs (λ k l. h (suc k) (omega arith)))
 
-label-ok : (x : Coded) (xs : List Coded) → label x ≡ true → Ok x xs
+label-ok : (x : Coded) (xs : List Coded) → label x ≡ true → Sound x xs
 label-ok x xs e = let r = label-reads x e in (r.0, rw r.1)
 
 fine-by : (x : Coded) (xs : List Coded) → Fine xs ↔ Fine (unlabelled xs) → (b : Bool) → label x ≡ b → Fine (x ∷ xs) ↔ Fine (cond b (unlabelled xs) (x ∷ unlabelled xs))

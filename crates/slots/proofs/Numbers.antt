@@ -6,8 +6,8 @@ use mathlib.Core.Logic.{◌↔◌}
 use Prim.Native.Nat.{ℕ, ◌+◌}
 use lib.ListN.{length, drop}
 use Rattle.refusals.specs.declared.Refusal.TheVariants.{RowSlice, BrokenSlot}
-use Rattle.refusals.specs.declared.Verdict.{Verdict}
-use Rattle.refusals.specs.declared.Verdict.TheVariants.{Good}
+use Rattle.std.specs.Prelude.{Ok}
+use Rattle.refusals.specs.Answers.{Verdict}
 use Rattle.refusals.specs.declared.Told.{Told}
 use Rattle.refusals.specs.Calls.{slot_check, numbers_of, Listed}
 use Rattle.refusals.specs.Order.{when, or_else, first_of}
@@ -32,14 +32,14 @@ module _ (rows names : List ℕ) where
       ≡ or_else (or_else (when (not (well_formed (length rows))) RowSlice) (first_of (λ i. read_verdict (row_at rows names i)) (row_count rows))) (first_of slot (row_count rows))
   checked-verdict = ap₂ or_else (listed-verdict read_verdict rows names) (last_one (first_of slot (row_count rows)))
 
-  check-good : ((slot_check_of rows names).verdict ≡ Good) ↔ Filled rows names
+  check-good : ((slot_check_of rows names).verdict ≡ Ok tt) ↔ Filled rows names
   check-good =
       let p = passes-good read_verdict rows names in
       let read = (list_judged read_verdict rows names).verdict in (
         (λ e.
-            let g = or_else-good read (or_else (first_of slot (row_count rows)) Good) e in
+            let g = or_else-good read (or_else (first_of slot (row_count rows)) (Ok tt)) e in
             record { passes = p.0 g.0; slots = first-all slot (row_count rows) (sym (last_one (first_of slot (row_count rows))) ∙ g.1) }),
-        (λ f. good-or_else read (or_else (first_of slot (row_count rows)) Good) (p.1 f.passes) (last_one (first_of slot (row_count rows)) ∙ all_first slot (row_count rows) f.slots)),
+        (λ f. good-or_else read (or_else (first_of slot (row_count rows)) (Ok tt)) (p.1 f.passes) (last_one (first_of slot (row_count rows)) ∙ all_first slot (row_count rows) f.slots)),
       )
 
   abbrev slot_numbers : List ℕ

@@ -8,16 +8,12 @@ use native.Mathlib.Omega.{arith}
 use borrow.Author.Count.{below_more}
 use Rattle.refusals.specs.declared.Refusal.{Refusal}
 use Rattle.refusals.specs.declared.Refusal.TheVariants.{BrokenSlot}
-use Rattle.refusals.specs.declared.Answer.{Answer}
-use Rattle.refusals.specs.declared.Answer.TheVariants as answer
-use Rattle.refusals.specs.declared.Verdict.{Verdict}
-use Rattle.refusals.specs.declared.Verdict.TheVariants.{Good, Refused}
-use Rattle.coded.specs.declared.Coded.{Coded}
-use Rattle.coded.specs.declared.Coded.TheVariants as coded
+use Rattle.std.specs.Prelude.{Ok, Err}
+use Rattle.refusals.specs.Answers.{Answer, Verdict}
+use Rattle.coded.specs.Coded.{Coded, read_verdict}
 use Rattle.refusals.specs.Numbers.{answer_of}
 use Rattle.refusals.specs.Order.{first_of, passing, first_in, foremost}
 use Rattle.refusals.proofs.Order.{AllPass, StopsAt, all_first, stop-first, stop-passing}
-use Rattle.coded.specs.Coded.{read_verdict}
 use Rattle.slots.specs.declared.Watch.{Watch}
 use Rattle.slots.specs.declared.Watch.TheVariants.{Free, Both, Second, Broken}
 use Rattle.slots.specs.Slots.{opens, fills, items, label, unlabelled, filled, slot_verdict}
@@ -43,34 +39,34 @@ module _ (it : ℕ → Coded) (n : ℕ) where
   rest-none = ap unlabelled (items-end it n)
 
   -- ---- the verdict of the jump in row j
-  slot-none : (j : ℕ) → opens (it j) ≡ false → slot j ≡ Good
+  slot-none : (j : ℕ) → opens (it j) ≡ false → slot j ≡ Ok tt
   slot-none j e = rw e
 
-  slot-filled : (j : ℕ) → filled (rest (j + 1)) ≡ true → slot j ≡ Good
+  slot-filled : (j : ℕ) → filled (rest (j + 1)) ≡ true → slot j ≡ Ok tt
   slot-filled j e = rw (e, and-false)
 
-  slot-broken : (j : ℕ) → opens (it j) ≡ true → filled (rest (j + 1)) ≡ false → slot j ≡ Refused (BrokenSlot j)
+  slot-broken : (j : ℕ) → opens (it j) ≡ true → filled (rest (j + 1)) ≡ false → slot j ≡ Err (BrokenSlot j)
   slot-broken j o e = rw (o, e)
 
   first_wrong : (x : Coded) (xs : List Coded) → fills x ≡ false → filled (x ∷ xs) ≡ false
   first_wrong x [] e = refl
   first_wrong x (y ∷ ys) e = rw e
 
-  upto_next : (i : ℕ) → AllPass slot i → slot i ≡ Good → AllPass slot (i + 1)
-  upto_next i s e = below_more (λ (k : ℕ). slot k ≡ Good) i s e
+  upto_next : (i : ℕ) → AllPass slot i → slot i ≡ Ok tt → AllPass slot (i + 1)
+  upto_next i s e = below_more (λ (k : ℕ). slot k ≡ Ok tt) i s e
 
   -- the slots of the jump in row j, of which these are seen, go on in row i
   pub record Awaits (i j : ℕ) (seen : List Coded) : Type 0 where
     pub there : j < n
     pub before : AllPass slot j
     pub jump : opens (it j) ≡ true
-    pub later : slot j ≡ Good → AllPass slot i
+    pub later : slot j ≡ Ok tt → AllPass slot i
     pub slots : rest (j + 1) ≡ seen ++ rest i
 
   pub record IsBroken (j : ℕ) : Type 0 where
     pub there : j < n
     pub before : AllPass slot j
-    pub broken : slot j ≡ Refused (BrokenSlot j)
+    pub broken : slot j ≡ Err (BrokenSlot j)
 
   abbrev pub Seen : ℕ → Watch → Type 0
   Seen i Free = AllPass slot i
@@ -122,7 +118,7 @@ module _ (it : ℕ → Coded) (n : ℕ) where
   abbrev pub slotted : Answer
   slotted = answer_of (foremost (first_in slot n ∷ [])) 0
 
-  broken-first : {j : ℕ} → IsBroken j → answer.Refused (BrokenSlot j) j ≡ slotted
+  broken-first : {j : ℕ} → IsBroken j → Err (record { why = (BrokenSlot j); row = j }) ≡ slotted
   broken-first {j} s =
       let stop : StopsAt slot n = record { row = j; why = BrokenSlot j; before = s.there; fails = s.broken; earlier = s.before } in
       rw (stop-first slot n stop, stop-passing slot n stop)
@@ -144,19 +140,19 @@ module _ (it : ℕ → Coded) (n : ℕ) where
     pub seen : Seen i w
 
   module _ {i : ℕ} {w : Watch} (g : Watching i w) where
-    goes : i < n → row i ≡ Good → {v : Watch} → Seen (i + 1) v → Watching (i + 1) v
-    goes l e s = record { few = g.few; within = omega arith; good = below_more (λ (k : ℕ). row k ≡ Good) i g.good e; seen = s }
+    goes : i < n → row i ≡ Ok tt → {v : Watch} → Seen (i + 1) v → Watching (i + 1) v
+    goes l e s = record { few = g.few; within = omega arith; good = below_more (λ (k : ℕ). row k ≡ Ok tt) i g.good e; seen = s }
 
     pub watching_label : i < n → label (it i) ≡ true → Watching (i + 1) w
     watching_label l e = goes l (label-reads (it i) e).0 (seen-label l e w g.seen)
 
-    pub watching_next : i < n → (row i ≡ Good) × (label (it i) ≡ false) → Watching (i + 1) (after w (it i) i)
+    pub watching_next : i < n → (row i ≡ Ok tt) × (label (it i) ≡ false) → Watching (i + 1) (after w (it i) i)
     watching_next l e = goes l e.0 (seen_next l e.1 w g.seen)
 
-    pub watching_stop : i < n → {r : Refusal} → it i ≡ coded.Refused r → (first_of row n ≡ Refused r) × (passing row n ≡ i)
+    pub watching_stop : i < n → {r : Refusal} → it i ≡ Err r → (first_of row n ≡ Err r) × (passing row n ≡ i)
     watching_stop l {r} e =
         let stop : StopsAt row n = record { row = i; why = r; before = l; fails = rw e; earlier = g.good } in
         (stop-first row n stop, stop-passing row n stop)
 
-    pub watching_end : n ≤ i → (first_of row n ≡ Good) × (ending w ≡ slotted)
+    pub watching_end : n ≤ i → (first_of row n ≡ Ok tt) × (ending w ≡ slotted)
     watching_end h = let e : i ≡ n = omega (arith, g.within) in (all_first row n (λ k l. g.good k (omega arith)), seen_end w (subst (λ (k : ℕ). Seen k w) e g.seen))

@@ -8,9 +8,8 @@ use native.Mathlib.Omega.{arith}
 use lib.ListN.{drop}
 use Rattle.refusals.specs.declared.Refusal.{Refusal}
 use Rattle.refusals.specs.declared.Refusal.TheVariants.{BrokenSlot}
-use Rattle.refusals.specs.declared.Verdict.{Verdict}
-use Rattle.refusals.specs.declared.Verdict.TheVariants.{Good, Refused}
-use Rattle.refusals.specs.declared.Judged.{Judged}
+use Rattle.std.specs.Prelude.{Ok, Err}
+use Rattle.refusals.specs.Answers.{Verdict, Judged}
 use Rattle.refusals.specs.declared.Told.{Told}
 use Rattle.refusals.specs.Numbers.{told_of, in_row, answer_of, answered, among}
 use Rattle.refusals.specs.Calls.{reading}
@@ -38,8 +37,8 @@ module _ (rows names : List ℕ) where
   judged = slot_check_of rows names
 
   said-by : (v : Verdict) → judged.verdict ≡ v → Says read_verdict rows names (answered (answer_of judged 0)) ⊎ OfJump (answered (answer_of judged 0))
-  said-by Good e = inl (inl (rw e))
-  said-by (Refused why) e =
+  said-by (Ok _) e = inl (inl (rw e))
+  said-by (Err why) e =
       ⊎_elim (λ w. inl (subst (λ (j : Judged). Says read_verdict rows names (answered (answer_of j 0))) (sym w.1) (listed-says read_verdict rows names 0)))
       (λ w. inr (
         (passes-good read_verdict rows names).0 w.0,

@@ -13,15 +13,16 @@ use Rattle.refusals.specs.declared.Refusal.TheVariants.{BrokenSlot}
 use Rattle.refusals.specs.declared.Told.{Told}
 use Rattle.rows.specs.Rows.{row_width, most_rows, well_formed}
 use Rattle.rows.proofs.Limit.{rows_few}
-use Rattle.coded.specs.declared.Coded.{Coded}
-use Rattle.coded.specs.declared.Coded.TheVariants.{LoopEnd}
+use Rattle.std.specs.Prelude.{Ok}
+use Rattle.coded.specs.Coded.{Coded}
+use Rattle.items.specs.declared.Item.TheVariants.{LoopEnd}
 use Rattle.places.specs.Items.{row_at, row_count}
 use Rattle.places.specs.Left.{gather}
 use Rattle.refusals.proofs.Order.{when-good, good-when}
 use Rattle.slots.specs.Slots.{items, label, unlabelled, Filled, Checks}
 use Rattle.slots.specs.WithoutLabels.{without_labels}
 use Rattle.slots.proofs.Items.{items-length, items_at, items_of, one-item, items-joined}
-use Rattle.slots.proofs.Labels.{unlabelled-joined, Ok, Fine, fine-at, at-fine, fine-unlabelled}
+use Rattle.slots.proofs.Labels.{unlabelled-joined, Sound, Fine, fine-at, at-fine, fine-unlabelled}
 use Rattle.slots.proofs.Numbers.{check_zero}
 
 -- ---- a list passes exactly where its items are fine
@@ -34,14 +35,14 @@ module _ (rows names : List ℕ) where
 
   filled-fine : Filled rows names → Fine xs
   filled-fine f =
-      at-fine LoopEnd xs
+      at-fine (Ok LoopEnd) xs
       (λ k h.
       let l : k < row_count rows = rw items-length at h in
       rw (items_at it (row_count rows) k l, ← add-one k) (f.passes.each k l, when-good _ (BrokenSlot k) (f.slots k l)))
 
   fine-filled : well_formed (length rows) ≡ true → Fine xs → Filled rows names
   fine-filled w f =
-      let at : (k : ℕ) → k < row_count rows → Ok (it k) (drop (k + 1) xs) = λ k l. rw (items_at it (row_count rows) k l, ← add-one k) at (fine-at LoopEnd xs f k (rw items-length l)) in
+      let at : (k : ℕ) → k < row_count rows → Sound (it k) (drop (k + 1) xs) = λ k l. rw (items_at it (row_count rows) k l, ← add-one k) at (fine-at (Ok LoopEnd) xs f k (rw items-length l)) in
       record { passes = record { formed = w; each = λ k l. (at k l).0 }; slots = λ k l. good-when _ (BrokenSlot k) (at k l).1 }
 
 whole-formed : (n rows : ℕ) → n ≡ rows * row_width → rows ≤ most_rows → well_formed n ≡ true

@@ -1,15 +1,12 @@
 -- Document 01, "Slot check", and document 02, wish 1: "It should read the next two items that are not labels."
-use Rattle.std.specs.Prelude.{◌≡◌, Bool, false, cond, ◌&&◌, not, List, [], ◌∷◌, ◌++◌, ℕ, zero, suc, ◌+◌, ◌<◌, drop, eqb}
+use Rattle.std.specs.Prelude.{◌≡◌, Bool, false, cond, ◌&&◌, not, List, [], ◌∷◌, ◌++◌, ℕ, zero, suc, ◌+◌, ◌<◌, drop, eqb, Ok}
 use Rattle.refusals.specs.declared.Refusal.TheVariants.{BrokenSlot}
-use Rattle.refusals.specs.declared.Verdict.{Verdict}
-use Rattle.refusals.specs.declared.Verdict.TheVariants.{Good}
+use Rattle.refusals.specs.Answers.{Verdict, Judged}
+use Rattle.coded.specs.Coded.{Coded, of_instruction, read_verdict}
 use Rattle.refusals.specs.declared.Told.{Told}
-use Rattle.refusals.specs.declared.Judged.{Judged}
 use Rattle.refusals.specs.Numbers.{answer_of, answered}
 use Rattle.refusals.specs.Order.{when, first_in, foremost}
 use Rattle.items.specs.Kinds.{is_branch, has_slots}
-use Rattle.coded.specs.declared.Coded.{Coded}
-use Rattle.coded.specs.Coded.{of_instruction, read_verdict}
 use Rattle.places.specs.Items.{row_at, row_count, is_label}
 use Rattle.counts.specs.Counts.{list_judged, Passes}
 
@@ -51,7 +48,7 @@ slot_check_of rows names = foremost (list_judged read_verdict rows names ∷ fir
 -- none of them is met
 pub record Filled (rows names : List ℕ) : Type 0 where
   pub passes : Passes read_verdict rows names
-  pub slots : (i : ℕ) → i < row_count rows → slot_verdict (row_at rows names) (row_count rows) i ≡ Good
+  pub slots : (i : ℕ) → i < row_count rows → slot_verdict (row_at rows names) (row_count rows) i ≡ Ok tt
 
 -- THE CONTRACT of the slot check: what is told, in document 01's numbers; "33 keeps its first detail and repeats it as the third"
 abbrev pub Checks : List ℕ → List ℕ → Told → Type 0

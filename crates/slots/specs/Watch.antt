@@ -1,9 +1,8 @@
 -- An instrument of the slot check's proof: what one pass keeps in mind.
-use Rattle.std.specs.Prelude.{cond, ℕ}
+use Rattle.std.specs.Prelude.{cond, ℕ, Ok, Err}
 use Rattle.refusals.specs.declared.Refusal.TheVariants.{BrokenSlot}
-use Rattle.refusals.specs.declared.Answer.{Answer}
-use Rattle.refusals.specs.declared.Answer.TheVariants.{Accepted, Refused}
-use Rattle.coded.specs.declared.Coded.{Coded}
+use Rattle.refusals.specs.Answers.{Answer}
+use Rattle.coded.specs.Coded.{Coded}
 use Rattle.slots.specs.declared.Watch.{Watch}
 use Rattle.slots.specs.declared.Watch.TheVariants.{Free, Both, Second, Broken}
 use Rattle.slots.specs.Slots.{opens, fills}
@@ -17,7 +16,7 @@ after (Broken jump) x i = Broken jump
 
 -- no row more
 abbrev pub ending : Watch → Answer
-ending Free = Accepted 0
-ending (Both jump) = Refused (BrokenSlot jump) jump
-ending (Second jump) = Refused (BrokenSlot jump) jump
-ending (Broken jump) = Refused (BrokenSlot jump) jump
+ending Free = Ok 0
+ending (Both jump) = Err (record { why = (BrokenSlot jump); row = jump })
+ending (Second jump) = Err (record { why = (BrokenSlot jump); row = jump })
+ending (Broken jump) = Err (record { why = (BrokenSlot jump); row = jump })

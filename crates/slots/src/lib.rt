@@ -3,10 +3,11 @@
 
 ghost use Rattle.std.specs.Prelude.{◌≡◌};
 ghost use Rattle.refusals.specs.Numbers.{answered};
-ghost use Rattle.slots.specs.Slots.{opens, fills, Checks};
+ghost use Rattle.slots.specs.Slots.{label, opens, fills, Checks};
 ghost use Rattle.slots.specs.Watch.{after, ending};
 
 use coded::Coded;
+use items::Item;
 use refusals::{Answer, Refusal};
 
 // What the items so far leave open: nothing, both slots or the second slot of the jump in a row, or the first jump whose
@@ -19,24 +20,25 @@ enum Watch {
     Broken(u32),
 }
 
+// Whether a row is a label.
+fn is_label(row: Coded) -> bool
+    ensures { result ≡ label row }
+{
+    matches!(row, Ok(Item::Label { .. }))
+}
+
 // Whether a row has slots after it.
 fn opens(row: Coded) -> bool
     ensures { result ≡ opens row }
 {
-    match row {
-        Coded::Instruction(coding) => items::has_slots(coding.kind),
-        _ => false,
-    }
+    matches!(row, Ok(Item::Instruction(coding)) if items::has_slots(coding.kind))
 }
 
 // Whether a row may stand in a slot.
 fn fills(row: Coded) -> bool
     ensures { result ≡ fills row }
 {
-    match row {
-        Coded::Instruction(coding) => !items::is_branch(coding.kind),
-        _ => false,
-    }
+    matches!(row, Ok(Item::Instruction(coding)) if !items::is_branch(coding.kind))
 }
 
 impl Watch {
@@ -45,25 +47,11 @@ impl Watch {
         ensures { result ≡ after self row i }
     {
         match self {
-            Watch::Free => {
-                if opens(row) {
-                    return Watch::Both(i);
-                }
-                Watch::Free
-            }
-            Watch::Both(jump) => {
-                if fills(row) {
-                    return Watch::Second(jump);
-                }
-                Watch::Broken(jump)
-            }
-            Watch::Second(jump) => {
-                if fills(row) {
-                    return Watch::Free;
-                }
-                Watch::Broken(jump)
-            }
-            Watch::Broken(jump) => Watch::Broken(jump),
+            Watch::Free if opens(row) => Watch::Both(i),
+            Watch::Both(jump) if fills(row) => Watch::Second(jump),
+            Watch::Second(_) if fills(row) => Watch::Free,
+            Watch::Both(jump) | Watch::Second(jump) => Watch::Broken(jump),
+            Watch::Free | Watch::Broken(_) => self,
         }
     }
 
@@ -72,10 +60,10 @@ impl Watch {
         ensures { result ≡ ending self }
     {
         match self {
-            Watch::Free => Answer::Accepted(0),
-            Watch::Both(jump) => Answer::Refused(Refusal::BrokenSlot(jump), jump),
-            Watch::Second(jump) => Answer::Refused(Refusal::BrokenSlot(jump), jump),
-            Watch::Broken(jump) => Answer::Refused(Refusal::BrokenSlot(jump), jump),
+            Watch::Free => Ok(0),
+            Watch::Both(jump) | Watch::Second(jump) | Watch::Broken(jump) => {
+                Err(Refusal::BrokenSlot(jump).at(jump))
+            }
         }
     }
 }
@@ -86,24 +74,18 @@ pub fn slot_check(rows: &[u32], names: &[u8]) -> Answer
     ensures { Checks rows.now names.now (answered result) }
 {
     if !rows::well_formed(rows) {
-        return Answer::Refused(Refusal::RowSlice, 0);
+        return Err(Refusal::RowSlice.at(0));
     }
-    let n = rows.len() / rows::ROW_WIDTH;
     let mut watch = Watch::Free;
-    let mut i = 0;
-    while i < n {
+    for i in 0..rows.len() / rows::ROW_WIDTH {
         let item = coded::coded_at(rows, i, names.len());
         let row = i as u32;
-        match item {
-            Coded::Refused(why) => {
-                return Answer::Refused(why, row);
-            }
-            Coded::Label { .. } => {}
-            _ => {
-                watch = watch.after(item, row);
-            }
+        if let Err(why) = item {
+            return Err(why.at(row));
         }
-        i += 1;
+        if !is_label(item) {
+            watch = watch.after(item, row);
+        }
     }
     watch.ending()
 }

@@ -12,9 +12,5 @@ pub fn put_row(rows: &mut [u32], at: usize, row: &[u32])
     requires { (at + row_width ≤ length rows.old) × (length row.now ≡ row_width) }
     ensures { rows.new ≡ paste rows.old at row.now row_width }
 {
-    let mut k = 0;
-    while k < ROW_WIDTH {
-        rows[at + k] = row[k];
-        k += 1;
-    }
+    rows[at..at + ROW_WIDTH].copy_from_slice(row);
 }

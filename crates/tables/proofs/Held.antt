@@ -6,8 +6,9 @@ use native.Mathlib.Omega.{arith}
 use native.Mathlib.Nat.{mul-add, mul-zero}
 use lib.ListN.{length, get_or, drop}
 use lib.Seq.{sets}
-use Rattle.coded.specs.declared.Coded.TheVariants.{Instruction, Label, Jump, LoopBegin, LoopEnd, Refused}
-use Rattle.coded.specs.declared.Coded.{Coded}
+use Rattle.items.specs.declared.Item.TheVariants.{Instruction, Label, Jump, LoopBegin, LoopEnd}
+use Rattle.std.specs.Prelude.{Ok, Err}
+use Rattle.coded.specs.Coded.{Coded}
 use Rattle.places.specs.Items.{Kernel, is_label, is_jump, total, place, address, label_width, jump_width}
 use Rattle.places.specs.Left.{left, gather}
 use Rattle.tables.specs.Held.{HoldsLabels}
@@ -54,20 +55,20 @@ module _ (k : Kernel) where
   waiting q = (left k q (k.it q)).jumps
 
   entry-long : (q : ℕ) (x : Coded) → length (left k q x).labels ≡ label_width * is_label x
-  entry-long q (Instruction v) = refl
-  entry-long q (Label a b) = refl
-  entry-long q (Jump c a b) = refl
-  entry-long q (LoopBegin c m) = refl
-  entry-long q LoopEnd = refl
-  entry-long q (Refused why) = refl
+  entry-long q (Ok (Instruction v)) = refl
+  entry-long q (Ok (Label a b)) = refl
+  entry-long q (Ok (Jump c a b)) = refl
+  entry-long q (Ok (LoopBegin c m)) = refl
+  entry-long q (Ok LoopEnd) = refl
+  entry-long q (Err why) = refl
 
   waiting-long : (q : ℕ) (x : Coded) → length (left k q x).jumps ≡ jump_width * is_jump x
-  waiting-long q (Instruction v) = refl
-  waiting-long q (Label a b) = refl
-  waiting-long q (Jump c a b) = refl
-  waiting-long q (LoopBegin c m) = refl
-  waiting-long q LoopEnd = refl
-  waiting-long q (Refused why) = refl
+  waiting-long q (Ok (Instruction v)) = refl
+  waiting-long q (Ok (Label a b)) = refl
+  waiting-long q (Ok (Jump c a b)) = refl
+  waiting-long q (Ok (LoopBegin c m)) = refl
+  waiting-long q (Ok LoopEnd) = refl
+  waiting-long q (Err why) = refl
 
   pub labels_length : (i : ℕ) → length (gather entry i) ≡ label_width * total is_label k.it i
   labels_length = parts-length k.it is_label label_width entry (λ q. entry-long q (k.it q))
@@ -79,7 +80,7 @@ module _ (k : Kernel) where
     pub labels_are : X n ≡ gather (λ q. (left k q (k.it q)).labels) n ++ drop (label_width * total is_label k.it n) (X 0)
     labels_are = parts_are k.it is_label label_width entry (λ q. entry-long q (k.it q)) X step n room
 
-    label_at : (q c a b : ℕ) → q < n → k.it q ≡ Label a b → c < 3 → get_or (X n) (label_width * total is_label k.it q + c) 0 ≡ get_or (a ∷ b ∷ address k.it q ∷ []) c 0
+    label_at : (q c a b : ℕ) → q < n → k.it q ≡ Ok (Label a b) → c < 3 → get_or (X n) (label_width * total is_label k.it q + c) 0 ≡ get_or (a ∷ b ∷ address k.it q ∷ []) c 0
     label_at q c a b h e u = part_at k.it is_label label_width entry (λ q. entry-long q (k.it q)) X step n room q c h (ap (λ (x : Coded). (left k q x).labels) e) u
 
     pub labels-held : HoldsLabels k.it n (X n)

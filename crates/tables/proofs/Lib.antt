@@ -4,6 +4,3 @@ pub mod Which
 pub mod Held
 pub mod Lookups
 pub mod Fronts
-pub mod Records
-pub mod Wiped
-pub mod Values

@@ -7,28 +7,27 @@ use mathlib.Core.List.{List}
 use Prim.Native.Nat.{ℕ, zero, suc, ◌+◌, ◌*◌, ◌≤◌, ◌<◌}
 use native.Mathlib.Omega.{arith}
 use lib.ListN.{length, get_or}
-use Rattle.coded.specs.declared.Coded.{Coded}
+use Rattle.std.specs.Prelude.{Some, None, Option}
+use Rattle.coded.specs.Coded.{Coded}
 use Rattle.coded.proofs.Fine.{label-named}
 use Rattle.places.specs.Items.{Kernel, is_label, total, address}
 use Rattle.places.specs.Looking.{Found, at, nothing, is_found, newest, bears, labelled}
 use Rattle.prefixes.proofs.Looking.{newest-found, newest-earliest, pick_false}
 use Rattle.prefixes.proofs.Single.{Single}
-use Rattle.tables.specs.declared.Sought.{Sought}
-use Rattle.tables.specs.declared.Sought.TheVariants.{At, Nowhere}
 use Rattle.tables.specs.Tables.{entry_is, lookup, is_there, Entries, KernelFine}
 use Rattle.tables.proofs.Which.{IsLabel, label_or_not, label-row}
 use Rattle.tables.specs.Held.{HoldsLabels}
 
 -- the address of the row that was found
-abbrev pub placed : (ℕ → Coded) → Found → Sought
-placed it (at row) = At (address it row)
-placed it nothing = Nowhere
+abbrev pub placed : (ℕ → Coded) → Found → Option ℕ
+placed it (at row) = Some (address it row)
+placed it nothing = None
 
 there-is : (it : ℕ → Coded) (f : Found) → is_there (placed it f) ≡ is_found f
 there-is it (at row) = refl
 there-is it nothing = refl
 
-pick_placed : (it : ℕ → Coded) (t : Bool) (i : ℕ) (f : Found) → cond t (At (address it i)) (placed it f) ≡ placed it (cond t (at i) f)
+pick_placed : (it : ℕ → Coded) (t : Bool) (i : ℕ) (f : Found) → cond t (Some (address it i)) (placed it f) ≡ placed it (cond t (at i) f)
 pick_placed it true i f = refl
 pick_placed it false i f = refl
 
@@ -57,9 +56,9 @@ module _ (k : Kernel) (n : ℕ) (T : List ℕ) (held : HoldsLabels k.it n T) whe
         let g = held i y.start y.len u e in
         let v : entry_is k.names T a b t ≡ bearing i = rw (g.start, g.len, e) refl in
         ap (lookup k.names T a b) (let w : t + is_label (it i) ≡ suc t = omega arith in w)
-        ∙ ap (λ (s : Bool). cond s (At (get_or T (3 * t + 2) 0)) (lookup k.names T a b t)) v
-        ∙ ap (λ (p : ℕ). cond (bearing i) (At p) (lookup k.names T a b t)) g.address
-        ∙ ap (cond (bearing i) (At (address it i))) h
+        ∙ ap (λ (s : Bool). cond s (Some (get_or T (3 * t + 2) 0)) (lookup k.names T a b t)) v
+        ∙ ap (λ (p : ℕ). cond (bearing i) (Some p) (lookup k.names T a b t)) g.address
+        ∙ ap (cond (bearing i) (Some (address it i))) h
         ∙ pick_placed it (bearing i) i (newest bearing i)
 
     -- the newest entry of a name is that of the newest row

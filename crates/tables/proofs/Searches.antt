@@ -12,7 +12,7 @@ use borrow.Author.Tests.{eq-eqb, ne_eqb}
 use Rattle.places.specs.Looking.{same_from}
 use Rattle.prefixes.proofs.Looking.{pick_true, pick_false}
 use Rattle.tables.specs.Tables.{entry_is, lookup}
-use Rattle.tables.specs.declared.Sought.TheVariants.{At}
+use Rattle.std.specs.Prelude.{Some}
 
 up : (a k : ℕ) → a + suc k ≡ suc a + k
 up a k = omega arith
@@ -41,16 +41,8 @@ module _ (ns : List ℕ) (a b k : ℕ) (more : 0 < k) where
   same-less e = ap (λ n. same_from ns n a b) (less k more) ∙ last-other ns (k - 1) a b e
 
 module _ (ns ls : List ℕ) (a b k : ℕ) (more : 0 < k) where
-  pub find_hit : entry_is ns ls a b (k - 1) ≡ true → lookup ns ls a b k ≡ At (get_or ls (3 * (k - 1) + 2) 0)
+  pub find_hit : entry_is ns ls a b (k - 1) ≡ true → lookup ns ls a b k ≡ Some (get_or ls (3 * (k - 1) + 2) 0)
   find_hit e = ap (lookup ns ls a b) (less k more) ∙ pick_true _ _ _ e
 
   pub find_more : entry_is ns ls a b (k - 1) ≡ false → lookup ns ls a b k ≡ lookup ns ls a b (k - 1)
   find_more e = ap (lookup ns ls a b) (less k more) ∙ pick_false _ _ _ e
-
--- an entry of another length; one of the same
-module _ (ns ls : List ℕ) (a b k : ℕ) where
-  pub entry-no : (get_or ls (3 * k + 1) 0 ≡ b → ⊥) → false ≡ entry_is ns ls a b k
-  entry-no q = rw (ne_eqb _ _ q)
-
-  pub entry-yes : (r : Bool) → get_or ls (3 * k + 1) 0 ≡ b → r ≡ same_from ns b (get_or ls (3 * k) 0) a → r ≡ entry_is ns ls a b k
-  entry-yes r q t = rw (eq-eqb _ _ q) t

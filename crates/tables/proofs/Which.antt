@@ -5,37 +5,37 @@ use Prim.Native.Nat.{ℕ, zero, suc, ◌≤◌, ◌<◌}
 use native.Mathlib.Omega.{arith}
 use native.Mathlib.Nat.{eq-or-lt_of_le}
 use Rattle.items.specs.declared.Condition.{Condition}
-use Rattle.coded.specs.declared.Coded.TheVariants.{Instruction, Label, Jump, LoopBegin, LoopEnd}
-use Rattle.coded.specs.declared.Coded.{Coded}
-use Rattle.coded.specs.declared.Coded.TheVariants as coded
+use Rattle.items.specs.declared.Item.TheVariants.{Instruction, Label, Jump, LoopBegin, LoopEnd}
+use Rattle.std.specs.Prelude.{Ok, Err}
+use Rattle.coded.specs.Coded.{Coded}
 use Rattle.places.specs.Items.{is_label, is_jump, total}
 
 pub record IsLabel (x : Coded) : Type 0 where
   pub start : ℕ
   pub len : ℕ
-  pub label : x ≡ Label start len
+  pub label : x ≡ Ok (Label start len)
 
 pub label_or_not : (x : Coded) → (is_label x ≡ 0) ⊎ IsLabel x
-label_or_not (Instruction v) = inl refl
-label_or_not (Label a b) = inr (record { start = a; len = b; label = refl })
-label_or_not (Jump c a b) = inl refl
-label_or_not (LoopBegin c m) = inl refl
-label_or_not LoopEnd = inl refl
-label_or_not (coded.Refused why) = inl refl
+label_or_not (Ok (Instruction v)) = inl refl
+label_or_not (Ok (Label a b)) = inr (record { start = a; len = b; label = refl })
+label_or_not (Ok (Jump c a b)) = inl refl
+label_or_not (Ok (LoopBegin c m)) = inl refl
+label_or_not (Ok LoopEnd) = inl refl
+label_or_not (Err why) = inl refl
 
 pub record IsJump (x : Coded) : Type 0 where
   pub condition : Condition
   pub start : ℕ
   pub len : ℕ
-  pub jump : x ≡ Jump condition start len
+  pub jump : x ≡ Ok (Jump condition start len)
 
 pub jump_or_not : (x : Coded) → (is_jump x ≡ 0) ⊎ IsJump x
-jump_or_not (Instruction v) = inl refl
-jump_or_not (Label a b) = inl refl
-jump_or_not (Jump c a b) = inr (record { condition = c; start = a; len = b; jump = refl })
-jump_or_not (LoopBegin c m) = inl refl
-jump_or_not LoopEnd = inl refl
-jump_or_not (coded.Refused why) = inl refl
+jump_or_not (Ok (Instruction v)) = inl refl
+jump_or_not (Ok (Label a b)) = inl refl
+jump_or_not (Ok (Jump c a b)) = inr (record { condition = c; start = a; len = b; jump = refl })
+jump_or_not (Ok (LoopBegin c m)) = inl refl
+jump_or_not (Ok LoopEnd) = inl refl
+jump_or_not (Err why) = inl refl
 
 -- ---- the row of number k among the items of a kind
 pub record RowOf (counts : Coded → ℕ) (Is : Coded → Type 0) (it : ℕ → Coded) (n k : ℕ) : Type 0 where

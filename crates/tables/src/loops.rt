@@ -5,18 +5,14 @@ ghost use Rattle.tables.specs.Tables.{wiped};
 
 use places::{OpenLoop, ZERO_LOOP};
 
-// The record in a slot of the table; zero past its end.
+// The record in a slot of the table; zero past its end. (No Option: where no loop is open it is handed on and not looked at.)
 pub fn top(loops: &[OpenLoop], at: usize) -> OpenLoop
     ensures { result ≡ get_or loops.now at zero_loop }
 {
-    if at < loops.len() {
-        loops[at]
-    } else {
-        ZERO_LOOP
-    }
+    loops.get(at).copied().unwrap_or(ZERO_LOOP)
 }
 
-// A record stands in a slot of the table, if it has that slot.
+// A record stands in a slot of the table, if it has that slot. (The library's `get_mut` doesn't say what the slice ends as.)
 pub fn put_if(loops: &mut [OpenLoop], at: usize, rec: OpenLoop)
     ensures { loops.new ≡ set loops.old at rec }
 {
@@ -30,9 +26,5 @@ pub fn wipe(loops: &mut [OpenLoop], n: usize)
     requires { n ≤ length loops.old }
     ensures { loops.new ≡ wiped zero_loop n loops.old }
 {
-    let mut i = 0;
-    while i < n {
-        put_if(&mut *loops, i, ZERO_LOOP);
-        i += 1;
-    }
+    loops[..n].fill(ZERO_LOOP);
 }

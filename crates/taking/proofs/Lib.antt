@@ -2,4 +2,3 @@ pub mod Skims
 pub mod NextRow
 pub mod Records
 pub mod Turning
-pub mod Values

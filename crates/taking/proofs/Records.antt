@@ -3,45 +3,45 @@ use mathlib.Core.Path.{◌≡◌, refl, sym, ap}
 use mathlib.Core.List.{List}
 use Prim.Native.Nat.{ℕ, suc, ◌+◌, ◌-◌, ◌≤◌, ◌<◌}
 use native.Mathlib.Omega.{arith}
-use lib.ListN.{length, set, length-set}
-use lib.Seq.{set_out}
-use Rattle.coded.specs.declared.Coded.TheVariants.{Instruction, Label, Jump, LoopBegin, LoopEnd}
-use Rattle.coded.specs.declared.Coded.{Coded}
-use Rattle.coded.specs.declared.Coded.TheVariants as coded
+use lib.ListN.{set, length-set}
+use Rattle.items.specs.declared.Item.TheVariants.{Instruction, Label, Jump, LoopBegin, LoopEnd}
+use Rattle.std.specs.Prelude.{Ok, Err, Result}
+use Rattle.coded.specs.Coded.{Coded}
 use Rattle.places.specs.declared.OpenLoop.{OpenLoop}
 use Rattle.places.specs.declared.Rooms.{Rooms}
 use Rattle.places.specs.Left.{Lent, lent_of, zero_loop, with_loops}
 use Rattle.machine.specs.declared.State.{State}
 use Rattle.machine.specs.declared.Step.{Step}
-use Rattle.machine.specs.declared.Step.TheVariants.{On, Opened, Closed, Stop}
+use Rattle.refusals.specs.declared.Refusal.{Refusal}
+use Rattle.machine.specs.declared.Step.TheVariants.{On, Opened, Closed}
 use Rattle.machine.specs.Machine.{Mem, mem_of, step_row, step_state, loops_by, GoodFor}
 use Rattle.machine.specs.Finish.{level, shut, closed}
 use Rattle.agrees.proofs.Keeps.{starts-less}
 use Rattle.taking.specs.declared.Taking.{Taking}
-use Rattle.taking.specs.Taking.{went_on, turned_of}
+use Rattle.taking.specs.Taking.{went_on, turned_of, slotted}
 
 -- ---- the loop table, and the state, after a step
-pub turn-loops : (t : Taking) (x : Step) (top : OpenLoop) (k : List OpenLoop) → set k (turned_of t x top (length k)).slot (turned_of t x top (length k)).rec ≡ loops_by x t.state k
-turn-loops t (On s) top k = set_out k (length k) top (omega arith)
-turn-loops t (Opened s start) top k = refl
-turn-loops t (Closed s) top k = refl
-turn-loops t (Stop r) top k = set_out k (length k) top (omega arith)
+pub turn-loops : (t : Taking) (x : Result Step Refusal) (k : List OpenLoop) → slotted (turned_of t x).slot k ≡ loops_by x t.state k
+turn-loops t (Ok (On s)) k = refl
+turn-loops t (Ok (Opened s start)) k = refl
+turn-loops t (Ok (Closed s)) k = refl
+turn-loops t (Err r) k = refl
 
-pub turn_on : (t : Taking) (x : Coded) (s : State) (top : OpenLoop) (lent : ℕ) → (turned_of t (step_row x s) top lent).taking ≡ went_on t (step_state (step_row x s) s)
-turn_on t (Instruction v) s top lent = refl
-turn_on t (Label a b) s top lent = refl
-turn_on t (Jump c a b) s top lent = refl
-turn_on t (LoopBegin c m) s top lent = refl
-turn_on t LoopEnd s top lent = refl
-turn_on t (coded.Refused why) s top lent = refl
+pub turn_on : (t : Taking) (x : Coded) (s : State) → (turned_of t (step_row x s)).taking ≡ went_on t (step_state (step_row x s) s)
+turn_on t (Ok (Instruction v)) s = refl
+turn_on t (Ok (Label a b)) s = refl
+turn_on t (Ok (Jump c a b)) s = refl
+turn_on t (Ok (LoopBegin c m)) s = refl
+turn_on t (Ok LoopEnd) s = refl
+turn_on t (Err why) s = refl
 
 pub deeper_by_one : (x : Coded) (s : State) → (step_state (step_row x s) s).depth ≤ s.depth + 1
-deeper_by_one (Instruction v) s = omega arith
-deeper_by_one (Label a b) s = omega arith
-deeper_by_one (Jump c a b) s = omega arith
-deeper_by_one (LoopBegin c m) s = omega arith
-deeper_by_one LoopEnd s = omega arith
-deeper_by_one (coded.Refused why) s = omega arith
+deeper_by_one (Ok (Instruction v)) s = omega arith
+deeper_by_one (Ok (Label a b)) s = omega arith
+deeper_by_one (Ok (Jump c a b)) s = omega arith
+deeper_by_one (Ok (LoopBegin c m)) s = omega arith
+deeper_by_one (Ok LoopEnd) s = omega arith
+deeper_by_one (Err why) s = omega arith
 
 -- ---- closing
 pub mem_eq : {m m' : Mem} → m.s ≡ m'.s → m.lent.parcels ≡ m'.lent.parcels → m.lent.labels ≡ m'.lent.labels → m.lent.jumps ≡ m'.lent.jumps → m.lent.loops ≡ m'.lent.loops → m ≡ m'

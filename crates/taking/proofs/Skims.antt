@@ -8,10 +8,11 @@ use lib.ListN.{length}
 use lib.Dec.{eqb, ltb}
 use lib.Seq.{sets, length-sets}
 use borrow.Author.Tests.{le-ltb, ne_eqb}
-use Rattle.refusals.specs.declared.Verdict.{Verdict}
-use Rattle.refusals.specs.declared.Verdict.TheVariants.{Good}
-use Rattle.items.specs.Kinds.{is_branch}
+use Rattle.std.specs.Prelude.{Ok, Result}
+use Rattle.refusals.specs.Answers.{Verdict}
 use Rattle.encode.specs.declared.Form.{Form}
+use Rattle.refusals.specs.declared.Refusal.{Refusal}
+use Rattle.items.specs.Kinds.{is_branch}
 use Rattle.encode.specs.Encoding.{form_parcels, form_verdict}
 use Rattle.encode.proofs.Sizes.{form-few, form-some}
 use Rattle.coded.specs.declared.Coding.{Coding}
@@ -36,10 +37,10 @@ bars true zero h = refl
 bars true (suc d) h = let z : ◌≡◌ {A = Bool} (eqb (suc d) 0) false = ne_eqb (suc d) 0 (λ e. omega arith) in let w : ◌≡◌ {A = Bool} true false = h z in let y : ◌≡◌ {A = ℕ} 0 1 = cc in absurd (omega arith)
 bars false depth h = refl
 
-passes : (r : Rooms) (at depth : ℕ) (c : Coding) → (is_branch c.kind && ltb 0 depth) ≡ false → form_verdict c.form ≡ Good → at + 6 ≤ r.parcels → instruction_chk r at depth c ≡ Good
+passes : (r : Rooms) (at depth : ℕ) (c : Coding) → (is_branch c.kind && ltb 0 depth) ≡ false → form_verdict c.form ≡ Ok tt → at + 6 ≤ r.parcels → instruction_chk r at depth c ≡ Ok tt
 passes r at depth c b v h = rw (b, v, le-ltb r.parcels (at + size_of c.form) (omega (arith, h, form-few c.form)))
 
-module _ (rows names : List ℕ) (r : Rooms) (t : Taking) (good : t.verdict ≡ Good) (p : List ℕ) where
+module _ (rows names : List ℕ) (r : Rooms) (t : Taking) (good : t.verdict ≡ Ok tt) (p : List ℕ) where
   back : after_run t (run_of t) ≡ t
   back = ap (λ (v : Verdict). record { state = t.state; row = t.row; verdict = v }) (sym good)
 
@@ -56,8 +57,8 @@ module _ (rows names : List ℕ) (r : Rooms) (t : Taking) (good : t.verdict ≡ 
         row_is = ap coded_of (k.seen.reads (length names));
         passes = passes r h.x.at t.state.depth c (bars (is_branch c.kind) t.state.depth k.stays) (ap form_verdict k.seen.encodes ∙ k.encodes) k.roomy;
         left = k.left;
-        on = ap (after_run t) k.on ∙ ap (λ (f : Form). after_run t (took (size_of f) h.x)) (sym k.seen.encodes);
-        parcels = k.parcels ∙ ap (λ (f : Form). sets h.p h.x.at (form_parcels f)) (sym k.seen.encodes);
+        on = ap (after_run t) k.on ∙ ap (λ (f : Result Form Refusal). after_run t (took (size_of f) h.x)) (sym k.seen.encodes);
+        parcels = k.parcels ∙ ap (λ (f : Result Form Refusal). sets h.p h.x.at (form_parcels f)) (sym k.seen.encodes);
       }
 
   pub skimmed-by : {x : Run} {q : List ℕ} → Runs rows r.parcels (eqb t.state.depth 0) (run_of t) p x q → Skimmed (kernel_of rows names) r t p (after_run t x) q
@@ -68,7 +69,7 @@ pick_most : (t : Bool) (a b c : ℕ) → a ≤ c → b ≤ c → cond t a b ≤ 
 pick_most true a b c p q = p
 pick_most false a b c p q = q
 
-fine-on : {ns : List ℕ} {r : Rooms} {s : State} {lent : Lent} {top : OpenLoop} (v : Coding) → Fine ns r s lent top → instruction_chk r s.at s.depth v ≡ Good
+fine-on : {ns : List ℕ} {r : Rooms} {s : State} {lent : Lent} {top : OpenLoop} (v : Coding) → Fine ns r s lent top → instruction_chk r s.at s.depth v ≡ Ok tt
     → Fine ns r (advanced (size_of v.form) s) (with_parcels lent (sets lent.parcels s.at (form_parcels v.form))) top
 fine-on {ns} {r} {s} {lent} {top} v f e =
     let c = instruction-good r s.at s.depth v e in
@@ -91,11 +92,11 @@ module _ (k : Kernel) (r : Rooms) (t : Taking) where
 
   -- the verdict, the open loops and the rows before
   record Stays (x : Taking) : Type 0 where
-    good : x.verdict ≡ Good
+    good : x.verdict ≡ Ok tt
     depth : x.state.depth ≡ t.state.depth
     row : t.row ≤ x.row
 
-  went-stays : t.verdict ≡ Good → (p : List ℕ) (n : ℕ) (x : Taking) (q : List ℕ) → Went k r t p n x q → Stays x
+  went-stays : t.verdict ≡ Ok tt → (p : List ℕ) (n : ℕ) (x : Taking) (q : List ℕ) → Went k r t p n x q → Stays x
   went-stays g p zero x q (e, d) = rw e (record { good = g; depth = refl; row = omega arith })
   went-stays g p (suc n) x q h =
       let i = went-stays g p n h.y h.p h.before in
@@ -105,8 +106,8 @@ module _ {k : Kernel} {r : Rooms} {t : Taking} where
   pub skimmed-fine : {ns : List ℕ} {lent : Lent} {top : OpenLoop} {x : Taking} {q : List ℕ} → Fine ns r t.state lent top → Skimmed k r t lent.parcels x q → Fine ns r x.state (with_parcels lent q) top
   skimmed-fine {x} {q} f h = went-fine k r t f h.rows_taken x q h.went
 
-  module _ {p : List ℕ} {x : Taking} {q : List ℕ} (g : t.verdict ≡ Good) (h : Skimmed k r t p x q) where
-    pub skimmed-good : x.verdict ≡ Good
+  module _ {p : List ℕ} {x : Taking} {q : List ℕ} (g : t.verdict ≡ Ok tt) (h : Skimmed k r t p x q) where
+    pub skimmed-good : x.verdict ≡ Ok tt
     skimmed-good = (went-stays k r t g p h.rows_taken x q h.went).good
 
     pub skimmed-depth : x.state.depth ≡ t.state.depth

@@ -2,8 +2,7 @@
 // for each loop that is left open. The functions that hold the lent loop records only call; what thinks takes a record by value.
 #![tactic(auto)]
 
-ghost use Rattle.std.specs.Prelude.{◌≡◌, List, [], ℕ, ◌-◌, ◌≤◌, ◌<◌, length, ltb};
-ghost use Rattle.refusals.specs.declared.Verdict.TheVariants.{Good};
+ghost use Rattle.std.specs.Prelude.{◌≡◌, List, [], ℕ, ◌-◌, ◌≤◌, ◌<◌, length, ltb, Ok};
 ghost use Rattle.rows.specs.Rows.{most_rows};
 ghost use Rattle.runs.specs.Runs.{Skimming};
 ghost use Rattle.places.specs.Items.{kernel_of, row_count};
@@ -18,7 +17,8 @@ use refusals::{Refusal, Verdict};
 use rows::ROW_WIDTH;
 use runs::Run;
 
-// Where the rows stand: the state, the next row, and the first refusal if there is one.
+// Where the rows stand: the state, the next row, and the first refusal if there is one. The state is wanted with a refusal too: it says
+// what is wiped.
 #[derive(Clone, Copy)]
 pub struct Taking {
     pub state: State,
@@ -26,281 +26,254 @@ pub struct Taking {
     pub verdict: Verdict,
 }
 
-// What a turn makes of it, and the loop record it leaves in a slot of the lent table; a slot past the table is none.
+// What a turn makes of it, and the loop record that it leaves in a slot of the lent table, if it leaves one.
 #[derive(Clone, Copy)]
 pub struct Turned {
     pub taking: Taking,
-    pub slot: usize,
-    pub rec: OpenLoop,
+    pub slot: Option<(usize, OpenLoop)>,
 }
 
-// Before the first row; a slice that is no rows is refused at once.
-fn begun(rows: &[u32]) -> Taking
-    ensures { result ≡ start_of rows.now }
-{
-    if rows::well_formed(rows) {
-        return Taking {
+impl Taking {
+    // Before the first row; a slice that is no rows is refused at once.
+    fn begun(rows: &[u32]) -> Taking
+        ensures { result ≡ start_of rows.now }
+    {
+        Taking {
             state: START,
             row: 0,
-            verdict: Verdict::Good,
-        };
-    }
-    Taking {
-        state: START,
-        row: 0,
-        verdict: Verdict::Refused(Refusal::RowSlice),
-    }
-}
-
-// Whether a row is next.
-fn going(rows: &[u32], t: Taking) -> bool
-    ensures { result ≡ keeps_going t.verdict (ltb t.row (row_count rows.now)) }
-{
-    let verdict = t.verdict;
-    match verdict {
-        Verdict::Good => t.row < rows.len() / ROW_WIDTH,
-        Verdict::Refused(_) => false,
-    }
-}
-
-// Whether there is another turn: a row, or a loop that is left open.
-fn more(rows: &[u32], t: Taking) -> bool
-    ensures { result ≡ more_of rows.now t }
-{
-    let state = t.state;
-    if 0 < state.depth {
-        return true;
-    }
-    going(rows, t)
-}
-
-// The slot of the innermost open loop.
-fn innermost(t: Taking) -> usize
-    ensures { result ≡ t.state.depth - 1 }
-{
-    let state = t.state;
-    if state.depth == 0 {
-        return 0;
-    }
-    state.depth - 1
-}
-
-// Past the row, in the state that it made.
-fn on(t: Taking, state: State) -> Taking
-    requires { t.row < most_rows }
-    ensures { result ≡ went_on t state }
-{
-    Taking {
-        state,
-        row: t.row + 1,
-        verdict: Verdict::Good,
-    }
-}
-
-// A row's step as a turn: the record pushed, or a zero for the one popped, or no slot.
-fn after(t: Taking, step: Step, top: OpenLoop, lent: usize) -> Turned
-    requires { t.row < most_rows }
-    ensures { result ≡ turned_of t step top lent }
-{
-    let state = t.state;
-    match step {
-        Step::On(s) => Turned {
-            taking: on(t, s),
-            slot: lent,
-            rec: top,
-        },
-        Step::Opened(s, start) => Turned {
-            taking: on(t, s),
-            slot: state.depth,
-            rec: start,
-        },
-        Step::Closed(s) => Turned {
-            taking: on(t, s),
-            slot: innermost(t),
-            rec: ZERO_LOOP,
-        },
-        Step::Stop(r) => Turned {
-            taking: Taking {
-                state,
-                row: t.row,
-                verdict: Verdict::Refused(r),
+            verdict: if rows::well_formed(rows) {
+                Ok(())
+            } else {
+                Err(Refusal::RowSlice)
             },
-            slot: lent,
-            rec: top,
-        },
+        }
     }
-}
 
-// The refusal once no row is next: the first one, or 23.
-fn late(verdict: Verdict) -> Refusal
-    ensures { result ≡ late_of verdict }
-{
-    match verdict {
-        Verdict::Good => Refusal::UnclosedLoop,
-        Verdict::Refused(r) => r,
+    // Whether a row is next.
+    fn going(self, rows: &[u32]) -> bool
+        ensures { result ≡ keeps_going self.verdict (ltb self.row (row_count rows.now)) }
+    {
+        self.verdict.is_ok() && self.row < rows.len() / ROW_WIDTH
     }
-}
 
-// A turn past the rows: the innermost loop that is left open is closed.
-fn past_rows(t: Taking) -> Turned
-    ensures { result ≡ closed_of t (late_of t.verdict) }
-{
-    let slot = innermost(t);
-    let verdict = t.verdict;
-    let mut state = t.state;
-    state.depth = slot;
-    Turned {
-        taking: Taking {
+    // Whether there is another turn: a row, or a loop that is left open.
+    fn more(self, rows: &[u32]) -> bool
+        ensures { result ≡ more_of rows.now self }
+    {
+        0 < self.state.depth || self.going(rows)
+    }
+
+    // The slot of the innermost open loop.
+    fn innermost(self) -> usize
+        ensures { result ≡ self.state.depth - 1 }
+    {
+        self.state.depth.saturating_sub(1)
+    }
+
+    // Past the row, in the state that it made.
+    fn on(self, state: State) -> Taking
+        requires { self.row < most_rows }
+        ensures { result ≡ went_on self state }
+    {
+        Taking {
             state,
-            row: t.row,
-            verdict: Verdict::Refused(late(verdict)),
-        },
-        slot,
-        rec: ZERO_LOOP,
+            row: self.row + 1,
+            verdict: Ok(()),
+        }
     }
-}
 
-// Where the rows stand, as a run.
-fn run_of(t: Taking) -> Run
-    ensures { result ≡ run_of t }
-{
-    let state = t.state;
-    Run {
-        row: t.row,
-        at: state.at,
-        count: state.count,
-        last: state.last,
-        short: state.short,
-        shortat: state.shortat,
+    // A row's step as a turn: the record pushed, or a zero for the one popped, or no slot.
+    fn after(self, step: Result<Step, Refusal>) -> Turned
+        requires { self.row < most_rows }
+        ensures { result ≡ turned_of self step }
+    {
+        match step {
+            Ok(Step::On(state)) => Turned {
+                taking: self.on(state),
+                slot: None,
+            },
+            Ok(Step::Opened(state, start)) => Turned {
+                taking: self.on(state),
+                slot: Some((self.state.depth, start)),
+            },
+            Ok(Step::Closed(state)) => Turned {
+                taking: self.on(state),
+                slot: Some((self.innermost(), ZERO_LOOP)),
+            },
+            Err(why) => Turned {
+                taking: Taking {
+                    verdict: Err(why),
+                    ..self
+                },
+                slot: None,
+            },
+        }
     }
-}
 
-// Where they stand once a run has ended.
-fn after_run(t: Taking, run: Run) -> Taking
-    ensures { result ≡ after_run t run }
-{
-    let mut state = t.state;
-    state.at = run.at;
-    state.count = run.count;
-    state.last = run.last;
-    state.short = run.short;
-    state.shortat = run.shortat;
-    Taking {
-        state,
-        row: run.row,
-        verdict: Verdict::Good,
+    // The refusal once no row is next: the first one, or 23.
+    fn late(self) -> Refusal
+        ensures { result ≡ late_of self.verdict }
+    {
+        match self.verdict {
+            Ok(()) => Refusal::UnclosedLoop,
+            Err(why) => why,
+        }
     }
-}
 
-// The rows that are seen at a glance; where a loop is open, up to a branch.
-fn skim(rows: &[u32], rooms: Rooms, parcels: &mut [u16], t: Taking) -> Taking
-    requires { (t.verdict ≡ Good) × Skimming rows.now rooms.parcels (run_of t) (length parcels.old) }
-    ensures { (names : List ℕ) → Skimmed (kernel_of rows.now names) rooms t parcels.old result parcels.new }
-{
-    let state = t.state;
-    let free = state.depth == 0;
-    let run = runs::skim(rows, rooms.parcels, free, parcels, run_of(t));
-    after_run(t, run)
-}
-
-// The next row the long way.
-fn long_row(
-    rows: &[u32],
-    names: &[u8],
-    rooms: Rooms,
-    parcels: &mut [u16],
-    labels: &mut [u32],
-    jumps: &mut [u32],
-    t: Taking,
-    top: OpenLoop,
-    lent: usize,
-) -> Turned
-    requires { (Fine names.now rooms t.state (lent_of parcels.old labels.old jumps.old []) top) × (t.row < row_count rows.now) × (t.row < most_rows) }
-    ensures { StepTurn (kernel_of rows.now names.now) rooms t (lent_of parcels.old labels.old jumps.old []) top lent result (lent_of parcels.new labels.new jumps.new []) }
-{
-    let at = t.row;
-    let state = t.state;
-    let coded = coded::coded_at(rows, at, names.len());
-    let step = state.step(rooms, coded, at as u32, names, parcels, labels, jumps, top);
-    after(t, step, top, lent)
-}
-
-// A turn at the next row: those that are seen, and the row after them, if there is one, the long way.
-fn at_row(
-    rows: &[u32],
-    names: &[u8],
-    rooms: Rooms,
-    parcels: &mut [u16],
-    labels: &mut [u32],
-    jumps: &mut [u32],
-    t: Taking,
-    top: OpenLoop,
-    lent: usize,
-) -> Turned
-    requires { (Fine names.now rooms t.state (lent_of parcels.old labels.old jumps.old []) top) × (t.verdict ≡ Good) × (t.row < row_count rows.now) × (row_count rows.now ≤ most_rows) }
-    ensures { RowTurn (kernel_of rows.now names.now) rooms t (lent_of parcels.old labels.old jumps.old []) top lent result (lent_of parcels.new labels.new jumps.new []) }
-{
-    let s = skim(rows, rooms, parcels, t);
-    if going(rows, s) {
-        return long_row(rows, names, rooms, parcels, labels, jumps, s, top, lent);
+    // A turn past the rows: the innermost loop that is left open is closed.
+    fn past_rows(self) -> Turned
+        ensures { result ≡ closed_of self (late_of self.verdict) }
+    {
+        let depth = self.innermost();
+        Turned {
+            taking: Taking {
+                state: State {
+                    depth,
+                    ..self.state
+                },
+                row: self.row,
+                verdict: Err(self.late()),
+            },
+            slot: Some((depth, ZERO_LOOP)),
+        }
     }
-    Turned {
-        taking: s,
-        slot: lent,
-        rec: top,
-    }
-}
 
-// A turn: the next row's, or past the rows.
-fn onward(
-    rows: &[u32],
-    names: &[u8],
-    rooms: Rooms,
-    parcels: &mut [u16],
-    labels: &mut [u32],
-    jumps: &mut [u32],
-    t: Taking,
-    top: OpenLoop,
-    lent: usize,
-) -> Turned
-    requires { Stepping (kernel_of rows.now names.now) rooms t (lent_of parcels.old labels.old jumps.old []) top }
-    ensures { Onward (kernel_of rows.now names.now) rooms t (lent_of parcels.old labels.old jumps.old []) top lent result (lent_of parcels.new labels.new jumps.new []) }
-{
-    if going(rows, t) {
-        return at_row(rows, names, rooms, parcels, labels, jumps, t, top, lent);
+    // Where the rows stand, as a run.
+    fn run(self) -> Run
+        ensures { result ≡ run_of self }
+    {
+        let state = self.state;
+        Run {
+            row: self.row,
+            at: state.at,
+            count: state.count,
+            last: state.last,
+            short: state.short,
+            shortat: state.shortat,
+        }
     }
-    past_rows(t)
-}
 
-// A turn over the table: its innermost record is read, and the turn's record left in its slot.
-fn turn(
-    rows: &[u32],
-    names: &[u8],
-    rooms: Rooms,
-    parcels: &mut [u16],
-    labels: &mut [u32],
-    jumps: &mut [u32],
-    loops: &mut [OpenLoop],
-    t: Taking,
-) -> Taking
-    requires { Ready (kernel_of rows.now names.now) rooms t (lent_of parcels.old labels.old jumps.old loops.old) }
-    ensures { Turnt (kernel_of rows.now names.now) rooms t (lent_of parcels.old labels.old jumps.old loops.old) result (lent_of parcels.new labels.new jumps.new loops.new) }
-{
-    let slot = innermost(t);
-    let found = tables::loops::top(&*loops, slot);
-    let out = onward(
-        rows,
-        names,
-        rooms,
-        &mut *parcels,
-        &mut *labels,
-        &mut *jumps,
-        t,
-        found,
-        loops.len(),
-    );
-    tables::loops::put_if(&mut *loops, out.slot, out.rec);
-    out.taking
+    // Where they stand once a run has ended.
+    fn after_run(self, run: Run) -> Taking
+        ensures { result ≡ after_run self run }
+    {
+        Taking {
+            state: State {
+                at: run.at,
+                count: run.count,
+                last: run.last,
+                short: run.short,
+                shortat: run.shortat,
+                ..self.state
+            },
+            row: run.row,
+            verdict: Ok(()),
+        }
+    }
+
+    // The rows that are seen at a glance; where a loop is open, up to a branch.
+    fn skim(self, rows: &[u32], rooms: Rooms, parcels: &mut [u16]) -> Taking
+        requires { (self.verdict ≡ Ok tt) × Skimming rows.now rooms.parcels (run_of self) (length parcels.old) }
+        ensures { (names : List ℕ) → Skimmed (kernel_of rows.now names) rooms self parcels.old result parcels.new }
+    {
+        let free = self.state.depth == 0;
+        let run = runs::skim(rows, rooms.parcels, free, parcels, self.run());
+        self.after_run(run)
+    }
+
+    // The next row the long way.
+    fn long_row(
+        self,
+        rows: &[u32],
+        names: &[u8],
+        rooms: Rooms,
+        parcels: &mut [u16],
+        labels: &mut [u32],
+        jumps: &mut [u32],
+        top: OpenLoop,
+    ) -> Turned
+        requires { (Fine names.now rooms self.state (lent_of parcels.old labels.old jumps.old []) top) × (self.row < row_count rows.now) × (self.row < most_rows) }
+        ensures { StepTurn (kernel_of rows.now names.now) rooms self (lent_of parcels.old labels.old jumps.old []) top result (lent_of parcels.new labels.new jumps.new []) }
+    {
+        let row = self.row;
+        let coded = coded::coded_at(rows, row, names.len());
+        let step = self.state.step(rooms, coded, row as u32, names, parcels, labels, jumps, top);
+        self.after(step)
+    }
+
+    // A turn at the next row: those that are seen, and the row after them, if there is one, the long way.
+    fn at_row(
+        self,
+        rows: &[u32],
+        names: &[u8],
+        rooms: Rooms,
+        parcels: &mut [u16],
+        labels: &mut [u32],
+        jumps: &mut [u32],
+        top: OpenLoop,
+    ) -> Turned
+        requires { (Fine names.now rooms self.state (lent_of parcels.old labels.old jumps.old []) top) × (self.verdict ≡ Ok tt) × (self.row < row_count rows.now) × (row_count rows.now ≤ most_rows) }
+        ensures { RowTurn (kernel_of rows.now names.now) rooms self (lent_of parcels.old labels.old jumps.old []) top result (lent_of parcels.new labels.new jumps.new []) }
+    {
+        let s = self.skim(rows, rooms, parcels);
+        if s.going(rows) {
+            return s.long_row(rows, names, rooms, parcels, labels, jumps, top);
+        }
+        Turned {
+            taking: s,
+            slot: None,
+        }
+    }
+
+    // A turn: the next row's, or past the rows.
+    fn onward(
+        self,
+        rows: &[u32],
+        names: &[u8],
+        rooms: Rooms,
+        parcels: &mut [u16],
+        labels: &mut [u32],
+        jumps: &mut [u32],
+        top: OpenLoop,
+    ) -> Turned
+        requires { Stepping (kernel_of rows.now names.now) rooms self (lent_of parcels.old labels.old jumps.old []) top }
+        ensures { Onward (kernel_of rows.now names.now) rooms self (lent_of parcels.old labels.old jumps.old []) top result (lent_of parcels.new labels.new jumps.new []) }
+    {
+        if self.going(rows) {
+            return self.at_row(rows, names, rooms, parcels, labels, jumps, top);
+        }
+        self.past_rows()
+    }
+
+    // A turn over the table: its innermost record is read, and the turn's record left in its slot.
+    fn turn(
+        self,
+        rows: &[u32],
+        names: &[u8],
+        rooms: Rooms,
+        parcels: &mut [u16],
+        labels: &mut [u32],
+        jumps: &mut [u32],
+        loops: &mut [OpenLoop],
+    ) -> Taking
+        requires { Ready (kernel_of rows.now names.now) rooms self (lent_of parcels.old labels.old jumps.old loops.old) }
+        ensures { Turnt (kernel_of rows.now names.now) rooms self (lent_of parcels.old labels.old jumps.old loops.old) result (lent_of parcels.new labels.new jumps.new loops.new) }
+    {
+        let found = tables::loops::top(&*loops, self.innermost());
+        let out = self.onward(
+            rows,
+            names,
+            rooms,
+            &mut *parcels,
+            &mut *labels,
+            &mut *jumps,
+            found,
+        );
+        if let Some((slot, rec)) = out.slot {
+            tables::loops::put_if(&mut *loops, slot, rec);
+        }
+        out.taking
+    }
 }
 
 // The rows in turn, up to the first refusal; then the loops that are left open, the innermost first.
@@ -316,9 +289,9 @@ pub fn take_rows(
     requires { RoomingIn rooms (lent_of parcels.old labels.old jumps.old loops.old) }
     ensures { Took rows.now names.now rooms (lent_of parcels.old labels.old jumps.old loops.old) result (lent_of parcels.new labels.new jumps.new loops.new) }
 {
-    let mut t = begun(rows);
-    while more(rows, t) {
-        t = turn(
+    let mut t = Taking::begun(rows);
+    while t.more(rows) {
+        t = t.turn(
             rows,
             names,
             rooms,
@@ -326,7 +299,6 @@ pub fn take_rows(
             &mut *labels,
             &mut *jumps,
             &mut *loops,
-            t,
         );
     }
     t

@@ -55,6 +55,8 @@ signed-short (negsuc n) = omega (arith, decimal-short (suc n))
 pub detail-short : (z : ℤ) → length (detail z) ≤ 22
 detail-short z = omega (arith, signed-short z)
 
+pub ruleset shorts = (decimal-short, signed-short, detail-short)
+
 -- a machine's number takes no more than twenty
 pub places_few : (n k : ℕ) → n < 2 ^ 64 → IsDigitCount 10 1 n k → k ≤ 20
 places_few n k h w = by (leb k 20) refl

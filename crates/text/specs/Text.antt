@@ -1,7 +1,9 @@
 -- Document 01, "The bench program": what it prints, byte by byte. Every line it prints ends with byte 10.
 use Rattle.std.specs.Prelude.{◌≡◌, cond, List, [], ◌∷◌, ◌++◌, ℕ, zero, suc, ◌+◌, ◌/◌, ◌%◌, ◌≤◌, length, take, ℤ, pos, negsuc, ltb, eqb}
+use denote.Ref.{at_last}
 use Rattle.io.specs.Digits.{hex_digit_ascii, last_digits}
 use Rattle.refusals.specs.declared.Told.{Told}
+use Rattle.text.specs.declared.Text.{Text}
 
 -- a number below 10^k in decimal, without leading zeros
 abbrev pub decimal_below : ℕ → ℕ → List ℕ
@@ -44,8 +46,11 @@ abbrev pub ok_text : ℕ → List ℕ → List ℕ
 ok_text count parcels = ok ++ decimal count ++ 10 ∷ [] ++ each parcel_line parcels
 
 -- "`refused`, tab, number, tab, first detail, tab, second"; "`refused` lines get a last field"
+abbrev pub refusal_text : ℕ → ℤ → ℤ → ℤ → List ℕ
+refusal_text number first second third = refused ++ decimal number ++ detail first ++ detail second ++ detail third ++ 10 ∷ []
+
 abbrev pub refused_text : Told → List ℕ
-refused_text t = refused ++ decimal t.number ++ detail t.first ++ detail t.second ++ detail t.third ++ 10 ∷ []
+refused_text t = refusal_text t.number t.first t.second t.third
 
 -- an answer in numbers, with what stands in the parcels' room
 abbrev pub answer_text : Told → List ℕ → List ℕ
@@ -55,11 +60,12 @@ answer_text t parcels = cond (eqb t.number 0) (ok_text t.count (take t.count par
 abbrev pub unread_text : ℕ → List ℕ
 unread_text line = unread ++ decimal line ++ 10 ∷ []
 
--- a text is put into a buffer at a place, after what stands before it; r is the place after it
-pub record Puts (old : List ℕ) (at : ℕ) (text new : List ℕ) (r : ℕ) : Type 0 where
-  pub after : r ≡ at + length text
-  pub front : take r new ≡ take at old ++ text
-  pub long : length new ≡ length old
+-- bytes are put into a buffer after what stands in front of its place, which is then after them. (`at_last x l` is the reference x at the list l.)
+pub record Puts (old : Text) (bytes : List ℕ) (new : Text) : Type 0 where
+  pub after : new.at ≡ old.at + length bytes
+  pub front : take new.at new.out.now ≡ take old.at old.out.now ++ bytes
+  pub long : length new.out.now ≡ length old.out.now
+  pub same : new.out ≡ at_last old.out new.out.now
 
 -- a text of r bytes stands at the front of a buffer; none is longer than `ok`, a tab, twenty digits, byte 10 and 3,072 lines of five bytes
 pub record Shows (text buffer : List ℕ) (r : ℕ) : Type 0 where

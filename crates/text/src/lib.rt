@@ -1,9 +1,9 @@
 // Answers as text, in a lent buffer.
-#![tactic(auto)]
+#![tactic(auto, using(crate::proofs::Putting::puts_then, crate::proofs::Decimals::shorts))]
 
-ghost use Rattle.std.specs.Prelude.{◌≡◌, [], ◌∷◌, ◌++◌, min, ◌+◌, ◌*◌, ◌%◌, ◌<◌, ◌≤◌, length, take, nat_abs};
+ghost use Rattle.std.specs.Prelude.{◌≡◌, [], ◌∷◌, ◌++◌, ◌+◌, ◌*◌, ◌%◌, ◌<◌, ◌≤◌, length, take};
 ghost use Rattle.io.specs.Digits.{hex_digit_ascii, last_digits};
-ghost use Rattle.text.specs.Text.{decimal, signed, detail, parcel_line, each, ok_text, refused_text, answer_text, unread_text, Puts, Shows};
+ghost use Rattle.text.specs.Text.{decimal, signed, detail, parcel_line, each, ok_text, refusal_text, answer_text, unread_text, Puts, Shows};
 
 use refusals::Told;
 
@@ -12,168 +12,157 @@ fn digit(n: u16) -> u8
     ensures { result ≡ hex_digit_ascii (n % 16) }
 {
     let d = (n % 16) as u8;
-    if d < 10 { 48 + d } else { 87 + d }
+    if d < 10 { b'0' + d } else { b'a' - 10 + d }
 }
 
-// One byte; the place after it.
-pub fn put(out: &mut [u8], at: usize, b: u8) -> usize
-    requires { at < length out.old }
-    ensures { Puts out.old at (b ∷ []) out.new result }
-{
-    out[at] = b;
-    at + 1
+// A text that grows in a lent buffer: it stands in front of its place.
+#[derive(Drop)]
+pub struct Text<'a> {
+    pub out: &'a mut [u8],
+    pub at: usize,
 }
 
-// Bytes as they are; the place after them.
-pub fn put_bytes(out: &mut [u8], at: usize, bytes: &[u8]) -> usize
-    requires { at + length bytes.now ≤ length out.old }
-    ensures { Puts out.old at bytes.now out.new result }
-{
-    let mut next = at;
-    let mut i = 0;
-    while i < bytes.len() {
-        next = put(out, next, bytes[i]);
-        i += 1;
+impl<'a> Text<'a> {
+    // A text of nothing, at the front of a buffer.
+    pub fn front(out: &'a mut [u8]) -> Text<'a>
+        ensures { (result.out ≡ out.entry) × (result.at ≡ 0) }
+    {
+        Text { out, at: 0 }
     }
-    next
-}
 
-// A number in decimal; the place after it.
-pub fn put_decimal(out: &mut [u8], at: usize, n: u64) -> usize
-    requires { at + 20 ≤ length out.old }
-    ensures puts { Puts out.old at (decimal n) out.new result }
-    ensures upper_bound { result ≤ at + 20 }
-{
-    let mut digits = [0u8; 20];
-    let k = io::decimal(n, &mut digits);
-    put_bytes(out, at, &digits[..k])
-}
-
-// A number without its sign.
-fn size(z: i64) -> u64
-    ensures { result ≡ nat_abs z }
-{
-    if z < 0 {
-        return (-1 - z) as u64 + 1;
+    // One byte more.
+    pub fn put(&mut self, b: u8)
+        requires { self.old.at < length self.old.out.now }
+        ensures { Puts self.old (b ∷ []) self.new }
+    {
+        self.out[self.at] = b;
+        self.at += 1;
     }
-    z as u64
-}
 
-// A signed number in decimal; the place after it.
-fn put_signed(out: &mut [u8], at: usize, z: i64) -> usize
-    requires { at + 21 ≤ length out.old }
-    ensures puts { Puts out.old at (signed z) out.new result }
-    ensures upper_bound { result ≤ at + 21 }
-{
-    if z < 0 {
-        let next = put(out, at, 45);
-        return put_decimal(out, next, size(z));
+    // These bytes more.
+    pub fn put_bytes(&mut self, bytes: &[u8])
+        requires { self.old.at + length bytes.now ≤ length self.old.out.now }
+        ensures { Puts self.old bytes.now self.new }
+    {
+        let end = self.at + bytes.len();
+        self.out[self.at..end].copy_from_slice(bytes);
+        self.at = end;
     }
-    put_decimal(out, at, size(z))
-}
 
-// A parcel in four hex digits; the place after them.
-pub fn put_hex(out: &mut [u8], at: usize, p: u16) -> usize
-    requires { at + 4 ≤ length out.old }
-    ensures { Puts out.old at (last_digits 16 4 p) out.new result }
-{
-    out[at] = digit(p / 16 / 16 / 16);
-    out[at + 1] = digit(p / 16 / 16);
-    out[at + 2] = digit(p / 16);
-    out[at + 3] = digit(p);
-    at + 4
-}
-
-// A parcel's line; the place after it.
-#[tactic(auto, using(crate::proofs::Putting::puts_then), unfolding(crate::specs::Text::parcel_line))]
-fn put_parcel(out: &mut [u8], at: usize, p: u16) -> usize
-    requires { at + 5 ≤ length out.old }
-    ensures { Puts out.old at (parcel_line p) out.new result }
-{
-    let next = put_hex(out, at, p);
-    put(out, next, 10)
-}
-
-// The parcels' lines; the place after them.
-fn put_parcels(out: &mut [u8], at: usize, parcels: &[u16]) -> usize
-    requires { at + 5 * length parcels.now ≤ length out.old }
-    ensures { Puts out.old at (each parcel_line parcels.now) out.new result }
-{
-    let mut next = at;
-    let mut i = 0;
-    while i < parcels.len() {
-        next = put_parcel(out, next, parcels[i]);
-        i += 1;
+    // A number more, in decimal.
+    pub fn put_decimal(&mut self, n: u64)
+        requires { self.old.at + 20 ≤ length self.old.out.now }
+        ensures { Puts self.old (decimal n) self.new }
+    {
+        let mut digits = [0u8; 20];
+        let k = io::decimal(n, &mut digits);
+        self.put_bytes(&digits[..k]);
     }
-    next
-}
 
-// A word and a number; the place after them.
-#[tactic(auto, using(crate::proofs::Putting::puts_then))]
-pub fn put_head(out: &mut [u8], at: usize, word: &[u8], n: u64) -> usize
-    requires { at + length word.now + 20 ≤ length out.old }
-    ensures puts { Puts out.old at (word.now ++ decimal n) out.new result }
-    ensures upper_bound { result ≤ at + length word.now + 20 }
-{
-    let next = put_bytes(out, at, word);
-    put_decimal(out, next, n)
-}
+    // A signed number more, in decimal.
+    fn put_signed(&mut self, z: i64)
+        requires { self.old.at + 21 ≤ length self.old.out.now }
+        ensures { Puts self.old (signed z) self.new }
+    {
+        if z < 0 {
+            self.put(b'-');
+        }
+        self.put_decimal(z.unsigned_abs());
+    }
 
-// A tab and a detail; the place after them.
-#[tactic(auto, using(crate::proofs::Putting::puts_then))]
-fn put_detail(out: &mut [u8], at: usize, z: i64) -> usize
-    requires { at + 22 ≤ length out.old }
-    ensures puts { Puts out.old at (detail z) out.new result }
-    ensures upper_bound { result ≤ at + 22 }
-{
-    let next = put(out, at, 9);
-    put_signed(out, next, z)
-}
+    // A parcel more, in four hex digits.
+    pub fn put_hex(&mut self, p: u16)
+        requires { self.old.at + 4 ≤ length self.old.out.now }
+        ensures { Puts self.old (last_digits 16 4 p) self.new }
+    {
+        self.put(digit(p / 16 / 16 / 16));
+        self.put(digit(p / 16 / 16));
+        self.put(digit(p / 16));
+        self.put(digit(p));
+    }
 
-// The text of a refusal; the place after it.
-pub fn put_refused(out: &mut [u8], at: usize, told: Told) -> usize
-    requires { at + 95 ≤ length out.old }
-    ensures { Puts out.old at (refused_text told) out.new result }
-{
-    let number = put_head(out, at, b"refused\t", told.number as u64);
-    let first = put_detail(out, number, told.first);
-    let second = put_detail(out, first, told.second);
-    let third = put_detail(out, second, told.third);
-    put(out, third, 10)
+    // A parcel's line more.
+    #[tactic(auto, using(crate::proofs::Putting::puts_then), unfolding(crate::specs::Text::parcel_line))]
+    fn put_parcel(&mut self, p: u16)
+        requires { self.old.at + 5 ≤ length self.old.out.now }
+        ensures { Puts self.old (parcel_line p) self.new }
+    {
+        self.put_hex(p);
+        self.put(b'\n');
+    }
+
+    // The parcels' lines more.
+    fn put_parcels(&mut self, parcels: &[u16])
+        requires { self.old.at + 5 * length parcels.now ≤ length self.old.out.now }
+        ensures { Puts self.old (each parcel_line parcels.now) self.new }
+    {
+        for p in parcels {
+            self.put_parcel(*p);
+        }
+    }
+
+    // A word and a number more.
+    pub fn put_head(&mut self, word: &[u8], n: u64)
+        requires { self.old.at + length word.now + 20 ≤ length self.old.out.now }
+        ensures { Puts self.old (word.now ++ decimal n) self.new }
+    {
+        self.put_bytes(word);
+        self.put_decimal(n);
+    }
+
+    // A tab and a detail more.
+    fn put_detail(&mut self, z: i64)
+        requires { self.old.at + 22 ≤ length self.old.out.now }
+        ensures { Puts self.old (detail z) self.new }
+    {
+        self.put(b'\t');
+        self.put_signed(z);
+    }
+
+    // The text of a refusal more: its number and three details.
+    pub fn put_refused(&mut self, number: u32, first: i64, second: i64, third: i64)
+        requires { self.old.at + 95 ≤ length self.old.out.now }
+        ensures { Puts self.old (refusal_text number first second third) self.new }
+    {
+        self.put_head(b"refused\t", u64::from(number));
+        self.put_detail(first);
+        self.put_detail(second);
+        self.put_detail(third);
+        self.put(b'\n');
+    }
+
+    // The text of a count and parcels more.
+    fn put_ok(&mut self, count: u32, parcels: &[u16])
+        requires { self.old.at + 24 + 5 * length parcels.now ≤ length self.old.out.now }
+        ensures { Puts self.old (ok_text count parcels.now) self.new }
+    {
+        self.put_head(b"ok\t", u64::from(count));
+        self.put(b'\n');
+        self.put_parcels(parcels);
+    }
 }
 
 // The text of a refusal at the front, and its length.
-fn refused(told: Told, out: &mut [u8]) -> usize
+#[tactic(auto, using(crate::proofs::Putting::shows, crate::proofs::Lengths::refused_fits))]
+pub fn refused(number: u32, first: i64, second: i64, third: i64, out: &mut [u8]) -> usize
     requires { 15384 ≤ length out.old }
-    ensures { Shows (refused_text told) out.new result }
+    ensures { Shows (refusal_text number first second third) out.new result }
 {
-    put_refused(out, 0, told)
-}
-
-// The text of a count and parcels at the front, and its length.
-fn ok(count: u32, parcels: &[u16], out: &mut [u8]) -> usize
-    requires { (length parcels.now ≤ 3072) × (15384 ≤ length out.old) }
-    ensures { Shows (ok_text count parcels.now) out.new result }
-{
-    let number = put_head(out, 0, b"ok\t", count as u64);
-    let line = put(out, number, 10);
-    put_parcels(out, line, parcels)
-}
-
-// The smaller of two numbers.
-pub fn least(a: usize, b: usize) -> usize
-    ensures { (result ≡ min a b) × (result ≤ b) }
-{
-    if a < b { a } else { b }
+    let mut text = Text::front(out);
+    text.put_refused(number, first, second, third);
+    text.at
 }
 
 // The text of a count and so many of the parcels at the front, and its length.
+#[tactic(auto, using(crate::proofs::Putting::shows, crate::proofs::Lengths::accepted_fits, std::proofs::lemmas::List::take_min))]
 fn accepted(count: u32, parcels: &[u16], out: &mut [u8]) -> usize
     requires { (length parcels.now ≤ 3072) × (15384 ≤ length out.old) }
     ensures { Shows (ok_text count (take count parcels.now)) out.new result }
 {
-    let n = least(count as usize, parcels.len());
-    ok(count, &parcels[..n], out)
+    let n = (count as usize).min(parcels.len());
+    let mut text = Text::front(out);
+    text.put_ok(count, &parcels[..n]);
+    text.at
 }
 
 // The text of a build's answer and the parcels' room at the front, and its length.
@@ -184,7 +173,7 @@ pub fn answered(told: Told, parcels: &[u16], out: &mut [u8]) -> usize
     if told.number == 0 {
         return accepted(told.count, parcels, out);
     }
-    refused(told, out)
+    refused(told.number, told.first, told.second, told.third, out)
 }
 
 // An unread line's text at the front, and its length.
@@ -192,6 +181,8 @@ pub fn unread(line: u64, out: &mut [u8]) -> usize
     requires { 15384 ≤ length out.old }
     ensures { Shows (unread_text line) out.new result }
 {
-    let number = put_head(out, 0, b"unread\t", line);
-    put(out, number, 10)
+    let mut text = Text::front(out);
+    text.put_head(b"unread\t", line);
+    text.put(b'\n');
+    text.at
 }

@@ -11,8 +11,8 @@ use lib.IntN.{ℤ, pos, negsuc}
 use lib.Dec.{eqb}
 use borrow.Author.Tests.{eq-eqb}
 use Rattle.refusals.specs.declared.Told.{Told}
-use Rattle.refusals.specs.declared.Verdict.{Verdict}
-use Rattle.refusals.specs.declared.Verdict.TheVariants as verdict
+use Rattle.std.specs.Prelude.{Ok, Err}
+use Rattle.refusals.specs.Answers.{Verdict}
 use Rattle.refusals.proofs.Numbered.{over}
 use Rattle.bounds.specs.Tables.{lookup, at}
 use Rattle.places.specs.Items.{row_count, kernel_of}
@@ -138,16 +138,16 @@ module _ (rs names : List ℕ) where
       (λ i h. subst (Kept (row_of rs i)) (sym (gathered_row (copied rs names) n long i h)) (copied-kept i))
 
 -- ---- what is told and left
-good : (row : ℕ) (v : Verdict) (n : ℕ) (paired : Bool) → (told_widened (widened_in row v n paired)).number ≡ 0 → v ≡ verdict.Good
-good row verdict.Good n paired e = refl
-good row (verdict.Refused r) n paired e = absurd (let h = over r in omega arith)
+good : (row : ℕ) (v : Verdict) (n : ℕ) (paired : Bool) → (told_widened (widened_in row v n paired)).number ≡ 0 → v ≡ Ok tt
+good row (Ok _) n paired e = refl
+good row (Err r) n paired e = absurd (let h = over r in omega arith)
 
 copy-front : {rs names copy list : List ℕ} {t : ToldWidened} {copy' list' : List ℕ} → Widens rs names copy list t copy' list' → t.number ≡ 0
     → copy' ≡ gather (copied rs names) (row_count rs) ++ drop (length (gather (copied rs names) (row_count rs))) copy
 copy-front {rs} {names} {copy} {list} {t} w e =
     let j = widen_judged rs names copy list in
-    let z : j.verdict ≡ verdict.Good = good j.row j.verdict (changed rs names) (pairs (kernel_of rs names)) (rw w.answer at e) in
-    w.copy-left ∙ ap (λ (v : Verdict). laid v (gather (copied rs names) (row_count rs)) copy) z
+    let z : j.verdict ≡ Ok tt = good j.row j.verdict (changed rs names) (pairs (kernel_of rs names)) (rw w.answer at e) in
+    w.copy_left ∙ ap (λ (v : Verdict). laid v (gather (copied rs names) (row_count rs)) copy) z
 
 lines-front : (names : List ℕ) (n : ℕ) (l rest : List ℕ) → length l ≡ n * 17 → item_lines names n (l ++ rest) ≡ item_lines names n l
 lines-front names zero l rest h = refl

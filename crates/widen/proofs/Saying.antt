@@ -1,27 +1,30 @@
 -- What an answer, and a reading, come to as text.
 use mathlib.Core.Path.{◌≡◌, sym, ap, ◌∙◌}
 use mathlib.Core.List.{List, [], ◌∷◌, ◌++◌}
-use Prim.Native.Nat.{ℕ, ◌*◌, ◌≤◌}
+use Prim.Native.Nat.{ℕ, ◌*◌, ◌<◌, ◌≤◌}
 use native.Mathlib.Omega.{arith}
-use lib.ListN.{length, take, get_or, replicate, length-append}
+use lib.ListN.{length, take, get_or, replicate, length-append, length-drop}
+use lib.IntN.{ℤ}
 use lib.Seq.{length-take-le}
 use borrow.Author.Tests.{eq-eqb, ne_eqb}
 use Rattle.io.specs.Counts.{IsPrefixLen}
-use Rattle.refusals.specs.declared.Told.{Told}
 use Rattle.places.specs.Items.{row_count}
 use Rattle.widening.specs.declared.ToldWidened.{ToldWidened}
 use Rattle.widening.specs.Widening.{Widens}
-use Rattle.text.specs.Text.{decimal, refused_text, unread_text, Puts}
+use Rattle.std.specs.declared.slice.ChunksExact.{ChunksExact}
+use Rattle.std.specs.Slice.Iter.{chunks_exact_rest, chunks_exact_size}
+use Rattle.text.specs.declared.Text.{Text}
+use Rattle.text.specs.Text.{decimal, refused_text, refusal_text, unread_text, Puts, Shows}
 use Rattle.text.proofs.Decimals.{decimal-short}
-use Rattle.text.proofs.Lengths.{refused-fits}
-use Rattle.reader.specs.declared.Reading.{Reading}
-use Rattle.reader.specs.declared.Reading.TheVariants.{Read, Unread}
+use Rattle.std.specs.Prelude.{Ok, Err}
+use Rattle.reader.specs.declared.Read.{Read}
+use Rattle.reader.specs.declared.Unread.{Unread}
 use Rattle.reader.specs.Lines.{Said, rows, unread}
-use Rattle.reader.specs.Steps.{Tells, Within}
+use Rattle.reader.specs.Steps.{Tells}
 use Rattle.row_lines.specs.RowText.{field, Prints}
 use Rattle.row_lines.proofs.Writing.{prints}
 use Rattle.item_lines.specs.ItemText.{lines_of, item_lines}
-use Rattle.item_lines.proofs.Lining.{lines-short}
+use Rattle.item_lines.proofs.Lining.{Lining, lines_front, lines-short}
 use Rattle.widen.proofs.Rooms.{changes-few}
 use Rattle.widen.specs.Printed.{refusal_in, changed, unpaired, change_line, list_text, notes_text, WidenedText, SaidText}
 
@@ -40,27 +43,34 @@ change_short pair h =
 pub changes-short : (n : ℕ) (list : List ℕ) → length (lines_of 2 change_line n list) ≤ n * 50
 changes-short n list = lines-short 2 change_line 50 change_short n list
 
+pub changes_shown : (n : ℕ) (list : List ℕ) {t u : Text} {parts : ChunksExact ℕ} → Lining 2 change_line t (take (2 * n) list) parts u
+    → length (chunks_exact_rest parts) < chunks_exact_size parts → t.at ≡ 0 → 2 * n ≤ length list → 50 * n ≤ length t.out.now → Prints (lines_of 2 change_line n list) u.out.now u.at
+changes_shown n list g short z h room =
+    let l : length (take (2 * n) list) ≡ 2 * n = length-take-le (2 * n) list h in
+    let e : g.done ≡ n = omega (arith, g.within, g.size_is, ap length g.others, length-drop (g.done * 2) (take (2 * n) list)) in
+    prints (rw (e, lines_front 2 change_line n (2 * n) list (omega arith)) at g.here) z (omega (arith, changes-short n list))
+
 -- ---- an answer
 module _ (t : ToldWidened) where
-  refusal_fits : {told : Told} → told ≡ refusal_in t → {old buffer : List ℕ} {r : ℕ} → Puts old 0 (refused_text told) buffer r → 15384 ≤ length old → Prints (refused_text (refusal_in t)) buffer r
-  refusal_fits e p h = prints (rw e at p) (omega (arith, refused-fits (refusal_in t)))
+  refusal_prints : {a b d : ℤ} → a ≡ t.first → b ≡ t.second → d ≡ t.third → {buffer : List ℕ} {r : ℕ} → Shows (refusal_text t.number a b d) buffer r → 15384 ≤ length buffer → Prints (refused_text (refusal_in t)) buffer r
+  refusal_prints e f g p h = record { front = rw (e, f, g) at p.front; within = omega (arith, p.within) }
 
   module _ (n : ℕ) (copy names : List ℕ) where
     pub list-shown : t.number ≡ 0 → {buffer : List ℕ} {r : ℕ} → Prints (item_lines names n copy) buffer r → Prints (list_text t n copy names) buffer r
     list-shown e p = rw (eq-eqb t.number 0 e) p
 
-    pub list-refused : (t.number ≡ 0 → ⊥) → {told : Told} → told ≡ refusal_in t → {old buffer : List ℕ} {r : ℕ} → Puts old 0 (refused_text told) buffer r → 15384 ≤ length old → Prints (list_text t n copy names) buffer r
-    list-refused m e p h = rw (ne_eqb t.number 0 m) (refusal_fits e p h)
+    pub list-refused : (t.number ≡ 0 → ⊥) → {a b d : ℤ} → a ≡ t.first → b ≡ t.second → d ≡ t.third → {buffer : List ℕ} {r : ℕ} → Shows (refusal_text t.number a b d) buffer r → 15384 ≤ length buffer → Prints (list_text t n copy names) buffer r
+    list-refused m e f g p h = rw (ne_eqb t.number 0 m) (refusal_prints e f g p h)
 
   module _ (list : List ℕ) where
-    pub unpaired-noted : t.number ≡ 0 → t.paired ≡ 0 → {old buffer : List ℕ} {r : ℕ} → Puts old 0 unpaired buffer r → 15384 ≤ length old → Prints (notes_text t list) buffer r
-    unpaired-noted e f p h = rw (eq-eqb t.number 0 e, eq-eqb t.paired 0 f) (prints p (omega arith))
+    pub unpaired-noted : t.number ≡ 0 → t.paired ≡ 0 → {buffer : List ℕ} {r : ℕ} → Prints unpaired buffer r → Prints (notes_text t list) buffer r
+    unpaired-noted e f p = rw (eq-eqb t.number 0 e, eq-eqb t.paired 0 f) p
 
     pub changes-noted : t.number ≡ 0 → (t.paired ≡ 0 → ⊥) → {buffer : List ℕ} {r : ℕ} → Prints (lines_of 2 change_line t.changes list) buffer r → Prints (notes_text t list) buffer r
     changes-noted e f p = rw (eq-eqb t.number 0 e, ne_eqb t.paired 0 f) p
 
-    pub refusal_noted : (t.number ≡ 0 → ⊥) → {told : Told} → told ≡ refusal_in t → {old buffer : List ℕ} {r : ℕ} → Puts old 0 (refused_text told) buffer r → 15384 ≤ length old → Prints (notes_text t list) buffer r
-    refusal_noted m e p h = rw (ne_eqb t.number 0 m) (refusal_fits e p h)
+    pub refusal_noted : (t.number ≡ 0 → ⊥) → {a b d : ℤ} → a ≡ t.first → b ≡ t.second → d ≡ t.third → {buffer : List ℕ} {r : ℕ} → Shows (refusal_text t.number a b d) buffer r → 15384 ≤ length buffer → Prints (notes_text t list) buffer r
+    refusal_noted m e f g p h = rw (ne_eqb t.number 0 m) (refusal_prints e f g p h)
 
 module _ {rs names : List ℕ} {t told : ToldWidened} {copy list : List ℕ} (w : Widens rs names (replicate 8704 0) (replicate 1024 0) t copy list) (e : told ≡ t) where
   pub few-changes : length rs ≤ 8704 → told.changes ≤ 512
@@ -70,21 +80,13 @@ module _ {rs names : List ℕ} {t told : ToldWidened} {copy list : List ℕ} (w 
   both-shown p q = record { told = t; copy = copy; list = list; widens = w; shown = rw e at p.front; noted = rw e at q.front }
 
 -- ---- a reading
-pub unread-said : (s : Said) (r : Reading) (rb nb : List ℕ) (line : ℕ) → Tells s r rb nb → r ≡ Unread line → {text notes : List ℕ} → (text ≡ unread_text line) × (notes ≡ unread_text line) → SaidText s text notes
-unread-said (rows rs ns) r rb nb line t e f = let z : ◌≡◌ {A = ℕ} 0 1 = cc t.0 in absurd (omega arith)
-unread-said (unread n) r rb nb line t e f = let z : line ≡ n = cc in (f.0 ∙ ap unread_text z, f.1 ∙ ap unread_text z)
+pub unread-said : (s : Said) (e : Unread) → Tells s (Err e) → {text notes : List ℕ} → (text ≡ unread_text e.line) × (notes ≡ unread_text e.line) → SaidText s text notes
+unread-said (rows rs ns) e t f = absurd t
+unread-said (unread n) e t f = (f.0 ∙ ap unread_text t, f.1 ∙ ap unread_text t)
 
-pub rows-said : (s : Said) (r : Reading) (rb nb : List ℕ) (n k : ℕ) → Tells s r rb nb → r ≡ Read n k → {text notes : List ℕ} → WidenedText (take n rb) (take k nb) text notes → SaidText s text notes
-rows-said (rows rs ns) r rb nb n k t e b =
-    let z : n ≡ length rs = cc t.0 in
-    let y : k ≡ length ns = cc t.0 in
-    let f : take n rb ≡ rs = ap (λ (j : ℕ). take j rb) z ∙ t.1 in
-    let g : take k nb ≡ ns = ap (λ (j : ℕ). take j nb) y ∙ t.2 in
-    rw (f, g) at b
-rows-said (unread line) r rb nb n k t e b = let z : ◌≡◌ {A = ℕ} 0 1 = cc in absurd (omega arith)
-
-pub rows-within : (r : Reading) (n k : ℕ) → Within r → r ≡ Read n k → (n ≤ 8704) × (k ≤ 2048)
-rows-within r n k w e = rw e at w
+pub rows-said : (s : Said) (r : Read) → Tells s (Ok r) → {text notes : List ℕ} → WidenedText r.rows.now r.names.now text notes → SaidText s text notes
+rows-said (rows rs ns) r t b = rw (t.0, t.1) at b
+rows-said (unread line) r t b = absurd t
 
 -- what is printed is a part of its buffer
 pub counted : (buffer : List ℕ) (r : ℕ) → r ≤ length buffer → IsPrefixLen r buffer

@@ -6,8 +6,8 @@ use Prim.Native.Nat.{ℕ, ◌*◌, ◌%◌, ◌≤◌}
 use native.Mathlib.Omega.{arith}
 use lib.ListN.{length, replicate, length-replicate}
 use borrow.Author.Tests.{le-ltb, le-leb, eq-eqb}
-use Rattle.refusals.specs.declared.Verdict.{Verdict}
-use Rattle.refusals.specs.declared.Verdict.TheVariants as verdict
+use Rattle.std.specs.Prelude.{Ok, Err}
+use Rattle.refusals.specs.Answers.{Verdict}
 use Rattle.refusals.specs.declared.Refusal.TheVariants.{RowSlice}
 use Rattle.refusals.specs.Numbers.{among}
 use Rattle.refusals.specs.Calls.{reading}
@@ -26,8 +26,8 @@ use Rattle.widen.proofs.Rooms.{how_few}
 use Rattle.widen.specs.Printed.{refusal_in}
 
 told-tells : (row : ℕ) (v : Verdict) (n : ℕ) (paired : Bool) → Tells reading v → among (0 ∷ reading) (refusal_in (told_widened (widened_in row v n paired))).number ≡ true
-told-tells row verdict.Good n paired h = refl
-told-tells row (verdict.Refused r) n paired h = h
+told-tells row (Ok _) n paired h = refl
+told-tells row (Err r) n paired h = h
 
 module _ (rs names : List ℕ) (n : ℕ) (long : length rs ≡ n * 17) (few : n ≤ 512) where
   whole : well_formed (length rs) ≡ true

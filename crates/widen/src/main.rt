@@ -3,16 +3,15 @@
 
 mod texts;
 
+use reader::Reader;
 use std::io;
 
 fn main(rt: HostRuntime) -> io::Result<()> {
-    let mut rows = [0u32; 8704];
-    let mut names = [0u8; 2048];
     let mut out = [0u8; 1231872];
     let mut notes = [0u8; 25600];
     let mut buf = [0u8; 65536];
-    let reader = reader::input::read_all(&rt, &mut buf, &mut rows, &mut names);
-    let lengths = texts::whole(reader, &mut rows, &mut names, &mut out, &mut notes);
+    let mut reader: Reader = reader::input::read_all(&rt, &mut buf);
+    let lengths = texts::whole(&mut reader, &mut out, &mut notes);
     let n = lengths.list;
     let k = lengths.notes;
     rt.stderr().write_all(&notes[..k])?;

@@ -7,11 +7,10 @@ use mathlib.Core.Bool.{true, false}
 use mathlib.Core.List.{List}
 use lib.ListN.{length}
 use Rattle.refusals.specs.declared.Told.{Told}
-use Rattle.refusals.specs.declared.Verdict.TheVariants.{Good}
+use Rattle.std.specs.Prelude.{Ok, Err}
+use Rattle.coded.specs.Coded.{Coded, read_verdict}
 use Rattle.rows.specs.Rows.{well_formed}
-use Rattle.coded.specs.declared.Coded.{Coded}
-use Rattle.coded.specs.declared.Coded.TheVariants.{Instruction, Label, Jump, LoopBegin, LoopEnd, Refused}
-use Rattle.coded.specs.Coded.{read_verdict}
+use Rattle.items.specs.declared.Item.TheVariants.{Instruction, Label, Jump, LoopBegin, LoopEnd}
 use Rattle.places.specs.Items.{Kernel, kernel_of, row_count}
 use Rattle.places.specs.Left.{Lent, Builds}
 use Rattle.counts.specs.Counts.{Passes}
@@ -30,16 +29,16 @@ module _ (k : Kernel) where
   open k use {it, n}
 
   -- rule 1: every row is read
-  all_read : Rule1 k → (i : ℕ) → i < n → read_verdict (it i) ≡ Good
+  all_read : Rule1 k → (i : ℕ) → i < n → read_verdict (it i) ≡ Ok tt
   all_read r i h = go (it i) refl
     where
-      go : (x : Coded) → it i ≡ x → read_verdict x ≡ Good
-      go (Instruction c) e = refl
-      go (Label a b) e = refl
-      go (Jump c a b) e = refl
-      go (LoopBegin c m) e = refl
-      go LoopEnd e = refl
-      go (Refused w) e = absurd (r.constructible i h w e)
+      go : (x : Coded) → it i ≡ x → read_verdict x ≡ Ok tt
+      go (Ok (Instruction c)) e = refl
+      go (Ok (Label a b)) e = refl
+      go (Ok (Jump c a b)) e = refl
+      go (Ok (LoopBegin c m)) e = refl
+      go (Ok LoopEnd) e = refl
+      go (Err w) e = absurd (r.constructible i h w e)
 
 module _ (rows names : List ℕ) (lent : Lent) (told : Told) (left : Lent) (build : Builds rows names lent told left) (accepted : told.number ≡ 0) where
   abbrev k : Kernel

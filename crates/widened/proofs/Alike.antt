@@ -3,7 +3,7 @@ use Prim.Native.Nat.{ℕ, zero, suc, ◌+◌, ◌-◌}
 use mathlib.Core.Path.{◌≡◌, refl, sym, ap, ◌∙◌, subst}
 use mathlib.Core.Bool.{◌&&◌, not}
 use lib.Dec.{ltb, leb, eqb}
-use Rattle.coded.specs.declared.Coded.{Coded}
+use Rattle.coded.specs.Coded.{Coded}
 use Rattle.places.specs.Items.{Kernel, about, is_entry, entries, nest}
 use Rattle.places.specs.Looking.{latest, is_found, newest, opener}
 use Rattle.rules.specs.Rules.{Pair}

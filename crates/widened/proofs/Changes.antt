@@ -6,15 +6,14 @@ use mathlib.Core.Logic.{⊎_elim}
 use mathlib.Core.Bool.{Bool, true, false}
 use mathlib.Core.List.{List, [], ◌++◌, append-nil}
 use lib.ListN.{length}
-use Rattle.refusals.specs.declared.Verdict.TheVariants.{Good}
-use Rattle.refusals.proofs.Order.{refused-good}
+use Rattle.std.specs.Prelude.{Ok, Err, Result}
 use Rattle.items.specs.declared.Item.{Item}
+use Rattle.items.specs.declared.VisaInstruction.{VisaInstruction}
+use Rattle.refusals.specs.declared.Refusal.{Refusal}
+use Rattle.coded.specs.Coded.{Coded, coded_of, read_verdict}
+use Rattle.refusals.proofs.Order.{refused-good}
 use Rattle.encode.specs.Encoding.{parcels_of}
-use Rattle.rows.specs.declared.Read.{Read}
-use Rattle.rows.specs.declared.Read.TheVariants as read
 use Rattle.rows.specs.Rows.{row_width, read_of}
-use Rattle.coded.specs.declared.Coded.{Coded}
-use Rattle.coded.specs.Coded.{coded_of, read_verdict}
 use Rattle.places.specs.Items.{row_at, row_count, about, size, is_entry}
 use Rattle.places.specs.Left.{gather}
 use Rattle.counts.specs.Counts.{Passes}
@@ -29,9 +28,9 @@ use Rattle.widened.proofs.Alike.{Alike}
 use Rattle.widened.proofs.Rows.{rows_whole, no_row, gather-length, gather-rows}
 
 -- a row that is not refused is read
-readable : (r : Read) → read_verdict (coded_of r) ≡ Good → (x : Item) × (r ≡ read.Item x)
-readable (read.Item x) e = (x, refl)
-readable (read.Refused w) e = absurd (refused-good w e)
+readable : (r : Result (Item VisaInstruction) Refusal) → read_verdict (coded_of r) ≡ Ok tt → (x : Item VisaInstruction) × (r ≡ Ok x)
+readable (Ok x) e = (x, refl)
+readable (Err w) e = absurd (refused-good w e)
 
 module _ (rows names : List ℕ) (passes : Passes read_verdict rows names) where
   -- the rows of the copy
@@ -43,7 +42,7 @@ module _ (rows names : List ℕ) (passes : Passes read_verdict rows names) where
   changed-keeps i h c =
       let w = (changes-exactly rows names i).0 c in
       let r = readable (read_of (row_of rows i) (length names)) (passes.each i h) in
-      twin-keeps (row_of rows i) (length names) r.0 r.1 w.has-twin w.row_encodes
+      twin-keeps (row_of rows i) (length names) r.0 r.1 w.kind_has_twin w.row_encodes
 
   pub copied-twin : (i : ℕ) → changes rows names i ≡ true → copied rows names i ≡ twin (row_of rows i)
   copied-twin i c = pick_true (changes rows names i) (twin (row_of rows i)) (row_of rows i) c
@@ -122,6 +121,6 @@ module _ (rows names : List ℕ) (passes : Passes read_verdict rows names) where
   pub wide-passes : Passes read_verdict wide_rows names
   wide-passes = record { formed = rw wide-length passes.formed; each = λ i h. go i (rw (sym wide-count) h) (changes rows names i) refl }
     where
-      go : (i : ℕ) → i < row_count rows → (b : Bool) → changes rows names i ≡ b → read_verdict (row_at wide_rows names i) ≡ Good
+      go : (i : ℕ) → i < row_count rows → (b : Bool) → changes rows names i ≡ b → read_verdict (row_at wide_rows names i) ≡ Ok tt
       go i h true c = let k = changed-keeps i h c in rw (ap comes (wide_row i h ∙ copied-twin i c), k.is_after) refl
       go i h false c = rw (stays-item i h c) (passes.each i h)

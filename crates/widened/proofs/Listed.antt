@@ -101,7 +101,7 @@ module _ (rows names copy list : List ℕ) {t : ToldWidened} {copy' list' : List
 
   other_row : (i : ℕ) → i < row_count rows → changes rows names i ≡ true → row_of copy' i ≡ row_of rows i → ⊥
   other_row i h c e =
-      let has = ((changes-exactly rows names i).0 c).has-twin in
+      let has = ((changes-exactly rows names i).0 c).kind_has_twin in
       true_false has (ap has_twin (sym (sym (copy_at i h ∙ copied-twin rows names passes i c) ∙ e)) ∙ twin_has_none (row_of rows i) has)
 
   pub only_listed_change : OnlyListed rows names copy list t copy' list'

@@ -5,10 +5,9 @@ use mathlib.Core.Path.{◌≡◌, refl, sym, ap, ◌∙◌}
 use mathlib.Core.Bool.{Bool, true, false}
 use mathlib.Core.List.{List}
 use Rattle.refusals.specs.declared.Told.{Told}
-use Rattle.refusals.specs.declared.Verdict.TheVariants.{Good}
-use Rattle.coded.specs.declared.Coded.{Coded}
-use Rattle.coded.specs.declared.Coded.TheVariants.{Instruction, Label, Jump, LoopBegin, LoopEnd, Refused}
-use Rattle.coded.specs.Coded.{read_verdict, encodes}
+use Rattle.std.specs.Prelude.{Ok, Err}
+use Rattle.coded.specs.Coded.{Coded, read_verdict, encodes}
+use Rattle.items.specs.declared.Item.TheVariants.{Instruction, Label, Jump, LoopBegin, LoopEnd}
 use Rattle.places.specs.declared.Rooms.{Rooms}
 use Rattle.places.specs.Items.{Kernel, kernel_of, row_at, row_count, size, is_entry}
 use Rattle.places.specs.Verdict.{verdict_at}
@@ -27,16 +26,16 @@ use Rattle.widened.proofs.Twice.{passes, widened_is}
 use Rattle.widened.proofs.Passed.{ShortPasses, tells_short_passed}
 
 -- a row that passes encodes
-passing-encodes : (k : Kernel) (r : Rooms) (i : ℕ) → verdict_at k r i ≡ Good → encodes (k.it i) ≡ Good
+passing-encodes : (k : Kernel) (r : Rooms) (i : ℕ) → verdict_at k r i ≡ Ok tt → encodes (k.it i) ≡ Ok tt
 passing-encodes k r i g = go (k.it i) refl
   where
-    go : (x : Coded) → k.it i ≡ x → encodes x ≡ Good
-    go (Instruction c) e = (passed k r i g (Instruction c) e).1.0
-    go (Label a b) e = refl
-    go (Jump c a b) e = refl
-    go (LoopBegin c m) e = refl
-    go LoopEnd e = refl
-    go (Refused w) e = refl
+    go : (x : Coded) → k.it i ≡ x → encodes x ≡ Ok tt
+    go (Ok (Instruction c)) e = (passed k r i g (Ok (Instruction c)) e).1.0
+    go (Ok (Label a b)) e = refl
+    go (Ok (Jump c a b)) e = refl
+    go (Ok (LoopBegin c m)) e = refl
+    go (Ok LoopEnd) e = refl
+    go (Err w) e = refl
 
 module _ (rows names : List ℕ) (read : Passes read_verdict rows names) (only : OnlyTwinsShort rows names) (lent : Lent) where
   abbrev wide : List ℕ
@@ -68,13 +67,13 @@ module _ (rows names : List ℕ) (read : Passes read_verdict rows names) (only :
           before = s.short.before;
           near = rw (E s.short.end, E q) at s.short.in_tail;
         } in
-        let good : encodes (row_at rows names q) ≡ Good = sym (ap encodes same) ∙ passing-encodes (kernel_of wide names) (rooms_of_lent lent) q s.passes in
+        let good : encodes (row_at rows names q) ≡ Ok tt = sym (ap encodes same) ∙ passing-encodes (kernel_of wide names) (rooms_of_lent lent) q s.passes in
         true_false
         ((changes-exactly rows names q).1
         (record {
           paired = only.paired;
           in_tail = tail;
-          has-twin = only.twin_or_full q tail (sym (ap is_entry same) ∙ s.short.entry) good (λ e. s.short.short (ap size same ∙ e));
+          kind_has_twin = only.twin_or_full q tail (sym (ap is_entry same) ∙ s.short.entry) good (λ e. s.short.short (ap size same ∙ e));
           row_encodes = good;
         }))
         c

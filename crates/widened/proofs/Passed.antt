@@ -9,8 +9,8 @@ use lib.IntN.{ℤ}
 use lib.ListN.{length}
 use Rattle.refusals.specs.declared.Told.{Told}
 use Rattle.refusals.specs.declared.Refusal.{Refusal}
-use Rattle.refusals.specs.declared.Verdict.{Verdict}
-use Rattle.refusals.specs.declared.Verdict.TheVariants.{Good, Refused}
+use Rattle.std.specs.Prelude.{Ok, Err}
+use Rattle.refusals.specs.Answers.{Verdict}
 use Rattle.refusals.specs.Numbers.{told_of}
 use Rattle.refusals.specs.Order.{first_of, FirstAt}
 use Rattle.refusals.proofs.Numbered.{checked}
@@ -34,7 +34,7 @@ module _ (k : Kernel) (lent : Lent) where
   pub record ShortPasses : Type 0 where
     pub detail : ℤ
     pub short : LatestShort k detail
-    pub passes : verdict_at k (rooms_of_lent lent) short.row ≡ Good
+    pub passes : verdict_at k (rooms_of_lent lent) short.row ≡ Ok tt
 
   -- where every row passes
   all_pass : RowsPass k (rooms_of_lent lent) → {z : ℤ} → LatestShort k z → ShortPasses
@@ -70,9 +70,9 @@ module _ (k : Kernel) (lent : Lent) where
 
   -- where every row before this one passes
   module _ {why : Refusal} {row : ℕ} (f : FirstAt (verdict_at k (rooms_of_lent lent)) n why row) where
-    first-told : verdict (up_to (suc row)) (rooms_of_lent lent) ≡ Refused why
+    first-told : verdict (up_to (suc row)) (rooms_of_lent lent) ≡ Err why
     first-told =
-        let e : first_of (verdict_at k (rooms_of_lent lent)) (suc row) ≡ Refused why =
+        let e : first_of (verdict_at k (rooms_of_lent lent)) (suc row) ≡ Err why =
         stop-first (verdict_at k (rooms_of_lent lent)) (suc row) (record { row = row; why = why; before = omega arith; fails = f.refused; earlier = f.earlier }) in
         rw e
 

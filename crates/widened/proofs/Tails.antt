@@ -7,10 +7,10 @@ use mathlib.Core.Bool.{Bool, true, false, ◌&&◌}
 use mathlib.Core.List.{List}
 use lib.Dec.{ltb}
 use borrow.Author.Tests.{lt-ltb, le-leb, eq-eqb, ltb-true, leb-true, eqb-true, not-true}
-use Rattle.refusals.specs.declared.Verdict.{Verdict}
-use Rattle.refusals.specs.declared.Verdict.TheVariants.{Good, Refused}
+use Rattle.std.specs.Prelude.{Ok, Err}
+use Rattle.refusals.specs.Answers.{Verdict}
 use Rattle.refusals.specs.Order.{if_good}
-use Rattle.coded.specs.declared.Coded.TheVariants.{LoopEnd}
+use Rattle.items.specs.declared.Item.TheVariants.{LoopEnd}
 use Rattle.coded.specs.Coded.{encodes}
 use Rattle.places.specs.Items.{Kernel, kernel_of, row_at, is_end, entries, nest}
 use Rattle.places.specs.Looking.{is_found, newest, opener, is_in_tail}
@@ -34,12 +34,12 @@ module _ (k : Kernel) where
   open k use {it, n}
 
   -- ---- loops pair
-  end-matched : None (stray it) n → (e : ℕ) → e < n → it e ≡ LoopEnd → 0 < nest it e
+  end-matched : None (stray it) n → (e : ℕ) → e < n → it e ≡ Ok LoopEnd → 0 < nest it e
   end-matched none e h c =
       let z : nest it e ≡ 0 → ⊥ = λ z. true_false (let w : stray it e ≡ true = rw (c, eq-eqb (nest it e) 0 z) refl in w) (none e h) in
       omega arith
 
-  matched-end : ((e : ℕ) → e < n → it e ≡ LoopEnd → 0 < nest it e) → (e : ℕ) → e < n → stray it e ≡ true → ⊥
+  matched-end : ((e : ℕ) → e < n → it e ≡ Ok LoopEnd → 0 < nest it e) → (e : ℕ) → e < n → stray it e ≡ true → ⊥
   matched-end matched e h c =
       let x = and_both _ _ c in
       let deep = matched e h (closes-end (it e) (eqb-true _ _ x.0)) in
@@ -84,9 +84,9 @@ module _ (k : Kernel) where
   tailed-exactly p i = (tail_of p i, of-tail i)
 
 -- ---- a row gives way
-if-good : (v : Verdict) → if_good v true false ≡ true → v ≡ Good
-if-good Good e = refl
-if-good (Refused w) e = absurd (true_false e refl)
+if-good : (v : Verdict) → if_good v true false ≡ true → v ≡ Ok tt
+if-good (Ok _) e = refl
+if-good (Err w) e = absurd (true_false e refl)
 
 pub changes-exactly : (rows names : List ℕ) (i : ℕ) → (changes rows names i ≡ true) ↔ GivesWay rows names i
 changes-exactly rows names i = (
@@ -98,13 +98,13 @@ changes-exactly rows names i = (
       record {
         paired = paired;
         in_tail = (tailed-exactly (kernel_of rows names) paired i).0 e.1;
-        has-twin = h.0;
+        kind_has_twin = h.0;
         row_encodes = if-good (encodes (row_at rows names i)) e.0;
       }),
   (λ w.
       rw (
         (pairs-exactly (kernel_of rows names)).1 w.paired,
-        w.has-twin,
+        w.kind_has_twin,
         w.row_encodes,
         (tailed-exactly (kernel_of rows names) w.paired i).1 w.in_tail,
       )),

@@ -23,7 +23,7 @@ use Rattle.widened.proofs.Unchanged.{zero_exactly_with_room, none-changed, paire
 
 -- a row without a twin is not changed
 no-twin : (rows names : List ℕ) (i : ℕ) → has_twin (row_of rows i) ≡ false → changes rows names i ≡ false
-no-twin rows names i h = not_so (changes rows names i) (λ c. true_false ((changes-exactly rows names i).0 c).has-twin h)
+no-twin rows names i h = not_so (changes rows names i) (λ c. true_false ((changes-exactly rows names i).0 c).kind_has_twin h)
 
 module _ (rows names : List ℕ) (passes : Passes read_verdict rows names) where
   abbrev wide : List ℕ
@@ -49,7 +49,7 @@ module _ (rows names : List ℕ) (passes : Passes read_verdict rows names) where
       go : i < row_count rows → (b : Bool) → changes rows names i ≡ b → changes wide names i ≡ false
       go h true c =
           no-twin wide names i
-          (ap has_twin (wide_row rows names passes i h ∙ copied-twin rows names passes i c) ∙ twin_has_none (row_of rows i) ((changes-exactly rows names i).0 c).has-twin)
+          (ap has_twin (wide_row rows names passes i h ∙ copied-twin rows names passes i c) ∙ twin_has_none (row_of rows i) ((changes-exactly rows names i).0 c).kind_has_twin)
       go h false c = stays-again i h c ∙ c
 
 -- ---- of an accepted widening

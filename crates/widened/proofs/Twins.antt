@@ -7,13 +7,14 @@ use mathlib.Core.List.{List, [], ◌∷◌}
 use lib.Dec.{eqb}
 use lib.ListN.{drop}
 use borrow.Author.Tests.{eqb-true}
-use Rattle.refusals.specs.declared.Verdict.TheVariants.{Good}
+use Rattle.std.specs.Prelude.{Ok}
+use Rattle.items.specs.declared.Item.{Item}
+use Rattle.items.specs.declared.VisaInstruction.{VisaInstruction}
 use Rattle.items.specs.declared.Direction.{Direction}
 use Rattle.items.specs.declared.Direction.TheVariants.{Load, Store}
 use Rattle.items.specs.declared.Update.{Update}
 use Rattle.items.specs.declared.Update.TheVariants.{PostModify, PreModify}
 use Rattle.items.specs.declared.VisaInstruction.TheVariants as visa
-use Rattle.items.specs.declared.Item.{Item}
 use Rattle.items.specs.declared.Item.TheVariants as item
 use Rattle.encode.specs.Layouts.{layout_of}
 use Rattle.encode.specs.Encoding.{form_of, parcels_of, verdict_of}
@@ -21,7 +22,6 @@ use Rattle.bounds.specs.Tables.{at}
 use Rattle.bounds.specs.Bounds as bound
 use Rattle.bounds.specs.Bounds.{filled, fields, compute, bounds_of}
 use Rattle.bounds.specs.Checks.{said, places_of, check_of}
-use Rattle.rows.specs.declared.Read.TheVariants as read
 use Rattle.rows.specs.Fields.{code, index, modifier, direction_of, update_of, transfers, others, instruction_of}
 use Rattle.rows.specs.Rows.{read_of, item_of, beside_of, memory_access_of}
 use Rattle.rows.specs.Kept.{Below}
@@ -30,7 +30,7 @@ use Rattle.faithful.proofs.Lines.{◌&◌}
 use Rattle.faithful.proofs.Read.{read-good}
 use Rattle.coded.specs.Coded.{coded_of, encodes}
 use Rattle.widening.specs.Widening.{memory_move, wide_nop, has_twin, twin}
-use Rattle.widened.specs.Moves.{dm, nothing, moved, nop, wide-nop, KeepsMove}
+use Rattle.widened.specs.Moves.{dm, nothing, moved, nop, full_nop, KeepsMove}
 use Rattle.widened.proofs.Widths.{short_move, wide_move, short_moves, short-few, wide-encodes, wide-full, wide_moves}
 
 -- ---- which rows have a twin
@@ -78,14 +78,14 @@ twin_has_none row h = go (gives row h)
 
 -- ---- what such a row is read as
 module _ (row : List ℕ) where
-  move-item : (d : Direction) (u : Update) → at row 0 ≡ kind d u → item_of row ≡ read.Item (item.Instruction (short_move d u (code (at row 1)) (index (at row 2)) (modifier (at row 3))))
+  move-item : (d : Direction) (u : Update) → at row 0 ≡ kind d u → item_of row ≡ Ok (item.Instruction (short_move d u (code (at row 1)) (index (at row 2)) (modifier (at row 3))))
   unfolding item_of instruction_of transfers
   move-item Load PostModify k = rw k
   move-item Store PostModify k = rw k
   move-item Load PreModify k = rw k
   move-item Store PreModify k = rw k
 
-  nop-item : at row 0 ≡ 38 → item_of row ≡ read.Item (item.Instruction visa.Nop)
+  nop-item : at row 0 ≡ 38 → item_of row ≡ Ok (item.Instruction visa.Nop)
   unfolding item_of instruction_of others
   nop-item k = rw k
 
@@ -130,35 +130,35 @@ module _ (row : List ℕ) (names : ℕ) where
   unfolding bounds_of compute
   wide_bounds d u f = none & o & o & o & o & o & o & o & direction-small d & f.register & f.index_at & f.modifier-at & update-small u & o & o & o & tt
 
-  wide-item : (d : Direction) (u : Update) → item_of (wide d u row) ≡ read.Item (item.Instruction (wide_move d u (code (at row 1)) (index (at row 2)) (modifier (at row 3))))
+  wide-item : (d : Direction) (u : Update) → item_of (wide d u row) ≡ Ok (item.Instruction (wide_move d u (code (at row 1)) (index (at row 2)) (modifier (at row 3))))
   unfolding item_of beside_of memory_access_of direction_of update_of
   wide-item Load PostModify = refl
   wide-item Store PostModify = refl
   wide-item Load PreModify = refl
   wide-item Store PreModify = refl
 
-  wide_read : (d : Direction) (u : Update) → Fields row → read_of (wide d u row) names ≡ read.Item (item.Instruction (wide_move d u (code (at row 1)) (index (at row 2)) (modifier (at row 3))))
+  wide_read : (d : Direction) (u : Update) → Fields row → read_of (wide d u row) names ≡ Ok (item.Instruction (wide_move d u (code (at row 1)) (index (at row 2)) (modifier (at row 3))))
   wide_read d u f = read-item (wide d u row) names (wide_bounds d u f) refl ∙ wide-item d u
 
-  nop-read : read_of wide_nop names ≡ read.Item (item.Instruction visa.WideNop)
+  nop-read : read_of wide_nop names ≡ Ok (item.Instruction visa.WideNop)
   unfolding read_of check_of places_of said bounds_of fields item_of instruction_of others
   nop-read = refl
 
 -- ---- THE THEOREM: a row that is read, has a twin and encodes
-module _ (row : List ℕ) (names : ℕ) (x : Item) (readable : read_of row names ≡ read.Item x) where
-  checked : (check_of row names ≡ Good) × (item_of row ≡ read.Item x)
+module _ (row : List ℕ) (names : ℕ) (x : Item VisaInstruction) (readable : read_of row names ≡ Ok x) where
+  checked : (check_of row names ≡ Ok tt) × (item_of row ≡ Ok x)
   unfolding read_of
   checked = read-good (check_of row names) (item_of row) x readable
 
-  move-keeps : (d : Direction) (u : Update) → at row 0 ≡ kind d u → twin row ≡ wide d u row → encodes (coded_of (read_of row names)) ≡ Good → KeepsMove row (twin row) names
+  move-keeps : (d : Direction) (u : Update) → at row 0 ≡ kind d u → twin row ≡ wide d u row → encodes (coded_of (read_of row names)) ≡ Ok tt → KeepsMove row (twin row) names
   unfolding verdict_of
   move-keeps d u k e g =
       let r = code (at row 1) in
       let i = index (at row 2) in
       let m = modifier (at row 3) in
       let f = move-fields row (subst (λ (bs : List ℕ). Below bs (drop 1 row)) (move-bounds row d u k) (within-bounds row names checked.0)) in
-      let old : read_of row names ≡ read.Item (item.Instruction (short_move d u r i m)) = readable ∙ sym checked.1 ∙ move-item row d u k in
-      let good : verdict_of (short_move d u r i m) ≡ Good = rw old at g in
+      let old : read_of row names ≡ Ok (item.Instruction (short_move d u r i m)) = readable ∙ sym checked.1 ∙ move-item row d u k in
+      let good : verdict_of (short_move d u r i m) ≡ Ok tt = rw old at g in
       record {
         before = short_move d u r i m;
         after = wide_move d u r i m;
@@ -181,13 +181,13 @@ module _ (row : List ℕ) (names : ℕ) (x : Item) (readable : read_of row names
     is_before = readable ∙ sym checked.1 ∙ nop-item row k;
     is_after = ap (λ (y : List ℕ). read_of y names) e ∙ nop-read row names;
     moves_before = nop;
-    moves_after = wide-nop;
+    moves_after = full_nop;
     short = omega arith;
     encodes = refl;
     full = refl;
   }
 
-  pub twin-keeps : has_twin row ≡ true → encodes (coded_of (read_of row names)) ≡ Good → KeepsMove row (twin row) names
+  pub twin-keeps : has_twin row ≡ true → encodes (coded_of (read_of row names)) ≡ Ok tt → KeepsMove row (twin row) names
   twin-keeps h g = go (gives row h)
     where
       go : Gives row → KeepsMove row (twin row) names

@@ -33,7 +33,7 @@ module _ (rows names copy list : List ℕ) {t : ToldWidened} {copy' list' : List
     zero_exactly_with_room p =
         let z = widen_zero rows names copy list w in
         let c = count_none (changes rows names) (row_count rows) none in
-        ((λ e. (z.0 e).copy-room), (λ h. z.1 (record { passes = p; copy-room = h; list-room = rw c (omega arith) })))
+        ((λ e. (z.0 e).copy_fits), (λ h. z.1 (record { passes = p; copy_fits = h; list_fits = rw c (omega arith) })))
 
     pub none-changed : t.number ≡ 0 → Unchanged rows copy list t copy' list'
     none-changed z =

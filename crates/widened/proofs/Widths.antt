@@ -11,13 +11,12 @@ use Rattle.registers.specs.declared.UniversalRegister.{UniversalRegister}
 use Rattle.registers.specs.declared.IndexRegister.{IndexRegister}
 use Rattle.registers.specs.declared.ModifyRegister.{ModifyRegister}
 use Rattle.refusals.specs.declared.Refusal.TheVariants.{InvalidDmIndex, InvalidDmModifier, UnsupportedPostModifyRegister, Dag1StoreSource}
-use Rattle.refusals.specs.declared.Verdict.TheVariants.{Good}
+use Rattle.std.specs.Prelude.{Ok, None}
 use Rattle.refusals.proofs.Order.{AllGood, when-good, good-when}
 use Rattle.items.specs.declared.Direction.{Direction}
 use Rattle.items.specs.declared.Direction.TheVariants.{Load, Store}
 use Rattle.items.specs.declared.Update.{Update}
 use Rattle.items.specs.declared.Update.TheVariants.{PostModify, PreModify}
-use Rattle.items.specs.declared.OptionalCompute.TheVariants.{Nothing}
 use Rattle.items.specs.declared.MemoryAccess.{MemoryAccess}
 use Rattle.items.specs.declared.VisaInstruction.{VisaInstruction}
 use Rattle.items.specs.declared.VisaInstruction.TheVariants as visa
@@ -41,7 +40,7 @@ abbrev pub access : Direction → Update → UniversalRegister → IndexRegister
 access d u r i m = record { direction = d; register = r; index = i; modifier = m; update = u }
 
 abbrev pub wide_move : Direction → Update → UniversalRegister → IndexRegister → ModifyRegister → VisaInstruction
-wide_move d u r i m = visa.MemoryMove Nothing (access d u r i m)
+wide_move d u r i m = visa.MemoryMove None (access d u r i m)
 
 -- a code below 16 is a data register
 no_dag : (code : ℕ) (second : Bool) → leb 16 code ≡ false → in_dag code second ≡ false
@@ -73,7 +72,7 @@ module _ (r : UniversalRegister) (i : IndexRegister) (m : ModifyRegister) where
   no_clash Load PreModify p s c = refl
   no_clash Store PreModify p s c = rw p s
 
-  no-compute : (d : Direction) (u : Update) → memory_clashes Nothing (access d u r i m) ≡ false
+  no-compute : (d : Direction) (u : Update) → memory_clashes None (access d u r i m) ≡ false
   unfolding memory_clashes writes
   no-compute d u = and_second (not (is_store d)) (ltb r.0 16 && false) (and_second (ltb r.0 16) false refl)
 
@@ -81,13 +80,13 @@ module _ (r : UniversalRegister) (i : IndexRegister) (m : ModifyRegister) where
   one_or_two PostModify word = omega arith
   one_or_two PreModify word = omega arith
 
-  module _ (d : Direction) (u : Update) (g : verdict_of (short_move d u r i m) ≡ Good) where
+  module _ (d : Direction) (u : Update) (g : verdict_of (short_move d u r i m) ≡ Ok tt) where
     abbrev narrow : Layout
     narrow = modify_layout r i m (is_store d) (is_post u)
 
-    encodes_so : form_verdict (form_as narrow) ≡ Good
+    encodes_so : form_verdict (form_as narrow) ≡ Ok tt
     unfolding verdict_of form_of
-    encodes_so = subst (λ (l : Layout). form_verdict (form_as l) ≡ Good) (short-layout d u) g
+    encodes_so = subst (λ (l : Layout). form_verdict (form_as l) ≡ Ok tt) (short-layout d u) g
 
     met : AllGood (modify_refusals r i m (is_store d) (is_post u))
     met = good-passed narrow encodes_so
@@ -105,7 +104,7 @@ module _ (r : UniversalRegister) (i : IndexRegister) (m : ModifyRegister) where
     unfolding parcels_of form_of
     short-few = rw (short-layout d u, good-word narrow encodes_so) (one_or_two u (pack narrow.fields))
 
-    pub wide-encodes : verdict_of (wide_move d u r i m) ≡ Good
+    pub wide-encodes : verdict_of (wide_move d u r i m) ≡ Ok tt
     unfolding verdict_of form_of layout_of
     wide-encodes =
         passed-good (layout_of (wide_move d u r i m)) (

@@ -10,7 +10,7 @@ use Rattle.encode.specs.Encoding.{form_of}
 use Rattle.rows.specs.Fields.{mode_of, count_of, transfers, others, instruction_of}
 use Rattle.rows.specs.Rows.{item_of, read_of}
 use Rattle.places.specs.Kernels.{rows}
-use Rattle.widening.specs.Widening.{copy_left, left_list}
+use Rattle.widening.specs.Widening.{left_copy, left_list}
 use Rattle.widening.specs.Kernels.{Gives, Stays, loop}
 
 -- each kind that gives way, with its twin
@@ -59,7 +59,7 @@ unpaired_stay = ((refl, refl), (refl, refl))
 
 -- one change, and no room for it: the copy and the list stay as lent, whatever room the copy has
 pub no_room_for_a_change :
-    (copy_left (rows (loop ((38 ∷ []) ∷ []))) [] (replicate 60 7) (7 ∷ []) ≡ replicate 60 7)
+    (left_copy (rows (loop ((38 ∷ []) ∷ []))) [] (replicate 60 7) (7 ∷ []) ≡ replicate 60 7)
     × (left_list (rows (loop ((38 ∷ []) ∷ []))) [] (replicate 60 7) (7 ∷ []) ≡ 7 ∷ [])
 unfolding fields compute bounds_of said places_of check_of layout_of form_of mode_of count_of others instruction_of item_of read_of
 no_room_for_a_change = (refl, refl)

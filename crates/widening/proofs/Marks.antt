@@ -7,21 +7,19 @@ use native.Mathlib.Omega.{arith}
 use lib.ListN.{length, get_or}
 use lib.Dec.{eqb}
 use borrow.Author.Tests.{eqb-true}
-use Rattle.refusals.specs.declared.Verdict.{Verdict}
-use Rattle.refusals.specs.declared.Verdict.TheVariants as verdict
+use Rattle.std.specs.Prelude.{Ok, Err, Result, Option}
+use Rattle.refusals.specs.Answers.{Verdict}
+use Rattle.items.specs.declared.Compute.{Compute}
+use Rattle.refusals.specs.declared.Refusal.{Refusal}
+use Rattle.items.specs.declared.Item.{Item}
+use Rattle.items.specs.declared.VisaInstruction.{VisaInstruction}
+use Rattle.coded.specs.Coded.{Coded, coded_of, read_verdict}
 use Rattle.refusals.proofs.Order.{refused-good}
-use Rattle.computes.specs.declared.Made.{Made}
-use Rattle.computes.specs.declared.Made.TheVariants as made
 use Rattle.items.specs.declared.DataAccess.{DataAccess}
 use Rattle.items.specs.declared.MemoryAccess.{MemoryAccess}
 use Rattle.bounds.specs.Tables.{at}
 use Rattle.bounds.specs.Checks.{check_of}
-use Rattle.rows.specs.declared.Beside.{Beside}
-use Rattle.rows.specs.declared.Beside.TheVariants as beside
-use Rattle.rows.specs.declared.Read.{Read}
 use Rattle.rows.specs.Rows.{row_width, after, read_of, item_of, compute_item, dual_item, memory_item, compute_of, beside_of, dm_of, pm_of, access_of}
-use Rattle.coded.specs.declared.Coded.{Coded}
-use Rattle.coded.specs.Coded.{coded_of, read_verdict}
 use Rattle.places.specs.Items.{row_at, about}
 use Rattle.widening.specs.declared.tails.Counted.{Counted}
 use Rattle.widening.specs.Widening.{has_twin, row_of}
@@ -35,24 +33,24 @@ pub record Marked (m : Counted) (x : Coded) : Type 0 where
   pub closes : (about x).closes ≡ m.closes
 
 -- what is read counts for this
-abbrev Reads : Counted → Read → Type 0
-Reads m r = read_verdict (coded_of r) ≡ verdict.Good → Marked m (coded_of r)
+abbrev Reads : Counted → Result (Item VisaInstruction) Refusal → Type 0
+Reads m r = read_verdict (coded_of r) ≡ Ok tt → Marked m (coded_of r)
 
 -- an instruction
 entry : {x : Coded} → (about x).entry ≡ 1 → (about x).opens ≡ 0 → (about x).closes ≡ 0 → Marked (mark 1 0 0) x
 entry e o c = record { entry = e; opens = o; closes = c }
 
-of-compute : (m : Made) → Reads (mark 1 0 0) (compute_item m)
-of-compute (made.Made x) e = entry refl refl refl
-of-compute (made.Refused r) e = absurd (refused-good r e)
+of-compute : (m : Result Compute Refusal) → Reads (mark 1 0 0) (compute_item m)
+of-compute (Ok x) e = entry refl refl refl
+of-compute (Err r) e = absurd (refused-good r e)
 
-of_dual : (dm pm : DataAccess) (b : Beside) → Reads (mark 1 0 0) (dual_item dm pm b)
-of_dual dm pm (beside.Compute x) e = entry refl refl refl
-of_dual dm pm (beside.Refused r) e = absurd (refused-good r e)
+of_dual : (dm pm : DataAccess) (b : Result (Option Compute) Refusal) → Reads (mark 1 0 0) (dual_item dm pm b)
+of_dual dm pm (Ok x) e = entry refl refl refl
+of_dual dm pm (Err r) e = absurd (refused-good r e)
 
-of-memory : (access : MemoryAccess) (b : Beside) → Reads (mark 1 0 0) (memory_item access b)
-of-memory access (beside.Compute x) e = entry refl refl refl
-of-memory access (beside.Refused r) e = absurd (refused-good r e)
+of-memory : (access : MemoryAccess) (b : Result (Option Compute) Refusal) → Reads (mark 1 0 0) (memory_item access b)
+of-memory access (Ok x) e = entry refl refl refl
+of-memory access (Err r) e = absurd (refused-good r e)
 
 -- kinds 32, 33 and 34, 48 to 51, and every other
 item-marked : (row : List ℕ) → Reads (mark_of (at row 0)) (item_of row)
@@ -72,11 +70,11 @@ item-marked row = go (eqb (at row 0) 32) (eqb (at row 0) 33) (eqb (at row 0) 34)
     go false false false false false false false p q r s t u w = rw (p, q, r, s, t, u, w) (λ z. record { entry = refl; opens = refl; closes = refl })
 
 checked_marked : (c : Verdict) (row : List ℕ) → Reads (mark_of (at row 0)) (after c (item_of row))
-checked_marked verdict.Good row e = item-marked row e
-checked_marked (verdict.Refused r) row e = absurd (refused-good r e)
+checked_marked (Ok _) row e = item-marked row e
+checked_marked (Err r) row e = absurd (refused-good r e)
 
 -- row i, where its kind stands in the rows
-pub row-marked : (rows names : List ℕ) (i : ℕ) → read_verdict (row_at rows names i) ≡ verdict.Good → Marked (mark_of (get_or rows (i * row_width) 0)) (row_at rows names i)
+pub row-marked : (rows names : List ℕ) (i : ℕ) → read_verdict (row_at rows names i) ≡ Ok tt → Marked (mark_of (get_or rows (i * row_width) 0)) (row_at rows names i)
 unfolding read_of
 row-marked rows names i e =
     subst (λ (k : ℕ). Marked (mark_of k) (row_at rows names i)) (kind-cell rows i) (checked_marked (check_of (row_of rows i) (length names)) (row_of rows i) e)
@@ -109,6 +107,6 @@ twin-mark k = go (eqb k 19) (eqb k 20) (eqb k 21) (eqb k 22) (eqb k 38) refl ref
     go false false false false true p q r s t h = rw (eqb-true k 38 t)
     go false false false false false p q r s t h = absurd (false≢true h)
 
-pub twin-marked : (rows names : List ℕ) (i : ℕ) → read_verdict (row_at rows names i) ≡ verdict.Good → has_twin (row_of rows i) ≡ true → Marked (mark 1 0 0) (row_at rows names i)
+pub twin-marked : (rows names : List ℕ) (i : ℕ) → read_verdict (row_at rows names i) ≡ Ok tt → has_twin (row_of rows i) ≡ true → Marked (mark 1 0 0) (row_at rows names i)
 twin-marked rows names i e h =
     subst (λ (m : Counted). Marked m (row_at rows names i)) (ap mark_of (sym (kind-cell rows i)) ∙ twin-mark (at (row_of rows i) 0) h) (row-marked rows names i e)

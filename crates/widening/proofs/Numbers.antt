@@ -9,9 +9,8 @@ use lib.Dec.{ltb}
 use lib.ListN.{length, drop}
 use borrow.Author.Tests.{ltb-false, le-ltb}
 use Rattle.refusals.specs.declared.Refusal.TheVariants.{NoRoomForRows}
-use Rattle.refusals.specs.declared.Verdict.{Verdict}
-use Rattle.refusals.specs.declared.Verdict.TheVariants as verdict
-use Rattle.refusals.specs.declared.Judged.{Judged}
+use Rattle.std.specs.Prelude.{Ok, Err}
+use Rattle.refusals.specs.Answers.{Verdict, Judged}
 use Rattle.refusals.specs.Numbers.{among}
 use Rattle.refusals.specs.Calls.{widen, numbers_of, Listed}
 use Rattle.refusals.specs.Order.{when}
@@ -24,7 +23,6 @@ use Rattle.places.specs.Items.{kernel_of, row_count}
 use Rattle.places.specs.Left.{gather}
 use Rattle.counts.specs.Counts.{list_judged}
 use Rattle.counts.proofs.Numbers.{passes-good, list_tells, read-tells}
-use Rattle.widening.specs.declared.Widened.TheVariants.{Copied}
 use Rattle.widening.specs.declared.ToldWidened.{ToldWidened}
 use Rattle.widening.specs.Widening.{pairs, copied, listed, changed, change_width, copy_room, list_room, widen_judged, widened_in, told_widened, laid, Widens, Fits}
 
@@ -40,14 +38,14 @@ module _ (rows names copy list : List ℕ) where
       ∷ when (ltb (list_room list) (changed rows names)) (NoRoomForRows (list_room list))
       ∷ []
 
-  pub widen_good : (judged.verdict ≡ verdict.Good) ↔ Fits rows names copy list
+  pub widen_good : (judged.verdict ≡ Ok tt) ↔ Fits rows names copy list
   widen_good =
       let p = passes-good read_verdict rows names in (
         (λ e.
             let g = first_good asked e in
-            record { passes = p.0 g.0; copy-room = ltb-false _ _ (when-good _ _ g.1.0); list-room = ltb-false _ _ (when-good _ _ g.1.1.0) }),
+            record { passes = p.0 g.0; copy_fits = ltb-false _ _ (when-good _ _ g.1.0); list_fits = ltb-false _ _ (when-good _ _ g.1.1.0) }),
         (λ f.
-            good-first asked (p.1 f.passes, (good-when _ _ (le-ltb _ _ f.copy-room), (good-when _ _ (le-ltb _ _ f.list-room), tt)))),
+            good-first asked (p.1 f.passes, (good-when _ _ (le-ltb _ _ f.copy_fits), (good-when _ _ (le-ltb _ _ f.list_fits), tt)))),
       )
 
   abbrev widen_numbers : List ℕ
@@ -55,8 +53,8 @@ module _ (rows names copy list : List ℕ) where
 
   -- the number is the verdict's
   number_in : (row : ℕ) (v : Verdict) (n : ℕ) (paired : Bool) → (told_widened (widened_in row v n paired)).number ≡ (checked v).number
-  number_in row verdict.Good n paired = refl
-  number_in row (verdict.Refused r) n paired = refl
+  number_in row (Ok _) n paired = refl
+  number_in row (Err r) n paired = refl
 
   -- ---- THE THEOREMS
   module _ {t : ToldWidened} {c l : List ℕ} (w : Widens rows names copy list t c l) where
@@ -82,14 +80,14 @@ module _ (rows names copy list : List ℕ) where
 
     -- what is told and left where the number is 0
     module _ (z : t.number ≡ 0) where
-      good : judged.verdict ≡ verdict.Good
+      good : judged.verdict ≡ Ok tt
       good = widen_good.1 (widen_zero.0 z)
 
-      pub widened-told : t ≡ told_widened (Copied (changed rows names) (pairs (kernel_of rows names)))
+      pub widened-told : t ≡ told_widened (Ok (record { changes = changed rows names; paired = pairs (kernel_of rows names) }))
       widened-told = w.answer ∙ ap (λ (v : Verdict). told_widened (widened_in judged.row v (changed rows names) (pairs (kernel_of rows names)))) good
 
       pub widened-copy : c ≡ gather (copied rows names) (row_count rows) ++ drop (length (gather (copied rows names) (row_count rows))) copy
-      widened-copy = w.copy-left ∙ ap (λ (v : Verdict). laid v (gather (copied rows names) (row_count rows)) copy) good
+      widened-copy = w.copy_left ∙ ap (λ (v : Verdict). laid v (gather (copied rows names) (row_count rows)) copy) good
 
       pub widened-list : l ≡ gather (listed rows names) (row_count rows) ++ drop (length (gather (listed rows names) (row_count rows))) list
       widened-list = w.list_left ∙ ap (λ (v : Verdict). laid v (gather (listed rows names) (row_count rows)) list) good
@@ -98,12 +96,12 @@ module _ (rows names copy list : List ℕ) where
       widened-fits =
           let f = widen_zero.0 z in
           let c = ap (λ (t : ToldWidened). t.changes) widened-told in
-          (omega (arith, f.copy-room), omega (arith, f.list-room))
+          (omega (arith, f.copy_fits), omega (arith, f.list_fits))
 
     -- "nothing is written in any refusal"
     pub refused_writes_nothing : (t.number ≡ 0 → ⊥) → (c ≡ copy) × (l ≡ list)
     refused_writes_nothing some = go judged.verdict refl
       where
         go : (v : Verdict) → judged.verdict ≡ v → (c ≡ copy) × (l ≡ list)
-        go verdict.Good e = absurd (some (number_is ∙ ap (λ (v : Verdict). (checked v).number) e))
-        go (verdict.Refused r) e = (w.copy-left ∙ rw e, w.list_left ∙ rw e)
+        go (Ok _) e = absurd (some (number_is ∙ ap (λ (v : Verdict). (checked v).number) e))
+        go (Err r) e = (w.copy_left ∙ rw e, w.list_left ∙ rw e)

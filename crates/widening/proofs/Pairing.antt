@@ -8,7 +8,7 @@ use native.Mathlib.Numerals.{add-one}
 use borrow.Author.Count.{below_more}
 use lib.Dec.{eqb}
 use borrow.Author.Tests.{eqb-true}
-use Rattle.coded.specs.declared.Coded.{Coded}
+use Rattle.coded.specs.Coded.{Coded}
 use Rattle.places.specs.Items.{Kernel, about, is_end, nest}
 use Rattle.places.specs.Looking.{is_found, newest}
 use Rattle.prefixes.proofs.Tests.{true_false, not_so, and_both}

@@ -9,9 +9,8 @@ use lib.Dec.{ltb}
 use borrow.Author.Tests.{ltb-true, ltb-false}
 use Rattle.refusals.specs.declared.Refusal.{Refusal}
 use Rattle.refusals.specs.declared.Refusal.TheVariants.{RowSlice, NoRoomForRows}
-use Rattle.refusals.specs.declared.Verdict.{Verdict}
-use Rattle.refusals.specs.declared.Verdict.TheVariants as verdict
-use Rattle.refusals.specs.declared.Judged.{Judged}
+use Rattle.std.specs.Prelude.{Ok, Err}
+use Rattle.refusals.specs.Answers.{Verdict, Judged}
 use Rattle.refusals.specs.Calls.{reading}
 use Rattle.refusals.specs.Order.{when, said_of_row, foremost}
 use Rattle.refusals.proofs.Numbered.{checked}
@@ -22,7 +21,6 @@ use Rattle.places.specs.Items.{row_at, row_count}
 use Rattle.counts.specs.Counts.{list_judged, Passes}
 use Rattle.counts.proofs.Numbers.{passes-good, read-tells}
 use Rattle.counts.proofs.WhichRow.{listed-row, names-other}
-use Rattle.widening.specs.declared.Widened.TheVariants.{Refused}
 use Rattle.widening.specs.declared.ToldWidened.{ToldWidened}
 use Rattle.widening.specs.Widening.{changed, copy_room, list_room, widened_of, told_widened, Widens}
 use Rattle.widening.specs.WhichRow.{NamesFirst, NoRoom, NamesRow}
@@ -44,24 +42,24 @@ module _ (rows names copy list : List ℕ) where
 
   data Says (t : ToldWidened) : Type 0 where
     accepted : t.number ≡ 0 → Says t
-    of-slice : t ≡ told_widened (Refused RowSlice 0) → Says t
+    of-slice : t ≡ told_widened (Err (record { why = RowSlice; row = 0 })) → Says t
     of_row : NamesFirst rows names t → Says t
     of_room : Passes read_verdict rows names → NoRoom rows names copy list t → Says t
 
   module _ (t : ToldWidened) (is : t ≡ tells (judged rows names copy list)) where
-    list-says : (why : Refusal) → asked.verdict ≡ verdict.Refused why → Says t
+    list-says : (why : Refusal) → asked.verdict ≡ Err why → Says t
     list-says why e =
         let s : t ≡ tells asked = is ∙ ap tells (foremost-here asked (short ∷ full ∷ []) e) in
         ⊎_elim (λ j. of-slice (s ∙ ap tells j)) (λ w. of_row (record { row = asked.row; why = why; first = w; said = s ∙ rw e })) (listed-row read_verdict rows names e)
 
-    module _ (g : asked.verdict ≡ verdict.Good) where
+    module _ (g : asked.verdict ≡ Ok tt) where
       passes : Passes read_verdict rows names
       passes = (passes-good read_verdict rows names).0 g
 
       on : judged rows names copy list ≡ foremost (short ∷ full ∷ [])
       on = foremost-on asked (short ∷ full ∷ []) g
 
-      full-says : row_count rows ≤ copy_room copy → short.verdict ≡ verdict.Good → (b : Bool) → ltb (list_room list) (changed rows names) ≡ b → Says t
+      full-says : row_count rows ≤ copy_room copy → short.verdict ≡ Ok tt → (b : Bool) → ltb (list_room list) (changed rows names) ≡ b → Says t
       full-says h s true e = of_room passes (inr (h, ltb-true _ _ e, is ∙ ap tells (on ∙ foremost-on short (full ∷ []) s) ∙ rw e))
       full-says h s false e = accepted (ap (λ (t : ToldWidened). t.number) (is ∙ ap tells (on ∙ foremost-on short (full ∷ []) s)) ∙ rw e)
 
@@ -73,8 +71,8 @@ module _ (rows names copy list : List ℕ) where
     says = go asked.verdict refl
       where
         go : (v : Verdict) → asked.verdict ≡ v → Says t
-        go verdict.Good e = room_says e (ltb (copy_room copy) (row_count rows)) refl
-        go (verdict.Refused why) e = list-says why e
+        go (Ok _) e = room_says e (ltb (copy_room copy) (row_count rows)) refl
+        go (Err why) e = list-says why e
 
   -- ---- a row refusal is neither 1 nor 36
   row_other : (m : ℕ) → none (0 ∷ reading) (m ∷ []) ≡ true → {t : ToldWidened} → NamesFirst rows names t → t.number ≡ m → ⊥

@@ -9,10 +9,8 @@ use lib.Dec.{ltb}
 use borrow.Author.Tests.{eqb-true}
 use Rattle.refusals.specs.declared.Refusal.{Refusal}
 use Rattle.refusals.specs.declared.Refusal.TheVariants.{NoRoomForRows}
-use Rattle.refusals.specs.declared.Verdict.{Verdict}
-use Rattle.refusals.specs.declared.Verdict.TheVariants as verdict
-use Rattle.refusals.specs.declared.Answer.TheVariants as answer
-use Rattle.refusals.specs.declared.Judged.{Judged}
+use Rattle.std.specs.Prelude.{Ok, Err}
+use Rattle.refusals.specs.Answers.{Verdict, Judged}
 use Rattle.refusals.specs.declared.Told.{Told}
 use Rattle.refusals.specs.Numbers.{told_of, answer_in, answered}
 use Rattle.refusals.specs.Order.{when, said_of_row, foremost}
@@ -27,7 +25,6 @@ use Rattle.counts.specs.Counts.{amount, list_judged, Passes, Counts}
 use Rattle.counts.proofs.Numbers.{passes-good, count_zero}
 use Rattle.stores.specs.Stores.{Begins}
 use Rattle.widening.specs.declared.ToldWidened.{ToldWidened}
-use Rattle.widening.specs.declared.Widened.TheVariants.{Copied, Refused}
 use Rattle.widening.specs.Widening.{pairs, copied, listed, changed, copy_room, list_room, widen_judged, widened_of, told_widened, laid, Widens}
 use Rattle.widening.specs.Walks.{Writes}
 
@@ -51,23 +48,23 @@ module _ (rows names copy list : List ℕ) where
   settled j e t c l =
       record {
         answer = t ∙ ap (λ (j : Judged). told_widened (widened_of rows names j)) (sym e);
-        copy-left = c ∙ ap (λ (j : Judged). laid j.verdict (gather (copied rows names) (row_count rows)) copy) (sym e);
+        copy_left = c ∙ ap (λ (j : Judged). laid j.verdict (gather (copied rows names) (row_count rows)) copy) (sym e);
         list_left = l ∙ ap (λ (j : Judged). laid j.verdict (gather (listed rows names) (row_count rows)) list) (sym e);
       }
 
   -- ---- 1 and the row refusals
-  pub rows-refused : (r : Refusal) (row : ℕ) → Counts Instructions rows names (answered (answer.Refused r row)) → Widens rows names copy list (told_widened (Refused r row)) copy list
+  pub rows-refused : (r : Refusal) (row : ℕ) → Counts Instructions rows names (answered (Err (record { why = r; row = row }))) → Widens rows names copy list (told_widened (Err (record { why = r; row = row }))) copy list
   rows-refused r row c = go row-judged.verdict refl
     where
-      go : (v : Verdict) → row-judged.verdict ≡ v → Widens rows names copy list (told_widened (Refused r row)) copy list
-      go verdict.Good e =
+      go : (v : Verdict) → row-judged.verdict ≡ v → Widens rows names copy list (told_widened (Err (record { why = r; row = row }))) copy list
+      go (Ok _) e =
           absurd (let h = over r in let z : (told_of r).number ≡ 0 = (count_zero Instructions rows names c).1 ((passes-good read_verdict rows names).0 e) in omega arith)
-      go (verdict.Refused why) e =
-          settled (said_of_row row-judged.row (verdict.Refused why)) (foremost-here row-judged (copy-judged ∷ list-judged ∷ []) e ∙ ap (said_of_row row-judged.row) e)
+      go (Err why) e =
+          settled (said_of_row row-judged.row (Err why)) (foremost-here row-judged (copy-judged ∷ list-judged ∷ []) e ∙ ap (said_of_row row-judged.row) e)
           (ap told_so (c ∙ ap (λ (v : Verdict). answered (answer_in row-judged.row v (total (amount Instructions) (row_at rows names) (row_count rows)))) e)) refl refl
 
   -- ---- every row is read
-  pub rows-read : {m : ℕ} → Counts Instructions rows names (answered (answer.Accepted m)) → Passes read_verdict rows names
+  pub rows-read : {m : ℕ} → Counts Instructions rows names (answered (Ok m)) → Passes read_verdict rows names
   rows-read c = (count_zero Instructions rows names c).0 refl
 
   module _ (read : Passes read_verdict rows names) where
@@ -78,26 +75,26 @@ module _ (rows names copy list : List ℕ) where
     past-rows : widen_judged rows names copy list ≡ foremost (copy-judged ∷ list-judged ∷ [])
     past-rows = foremost-on row-judged (copy-judged ∷ list-judged ∷ []) ((passes-good read_verdict rows names).1 read)
 
-    pub copy-full : ltb (copy_room copy) (row_count rows) ≡ true → Widens rows names copy list (told_widened (Refused (NoRoomForRows (copy_room copy)) 0)) copy list
+    pub copy-full : ltb (copy_room copy) (row_count rows) ≡ true → Widens rows names copy list (told_widened (Err (record { why = NoRoomForRows (copy_room copy); row = 0 }))) copy list
     copy-full h =
         let e = ap (λ (t : Bool). when t (NoRoomForRows (copy_room copy))) h in
-        settled (said_of_row 0 (verdict.Refused (NoRoomForRows (copy_room copy)))) (past-rows ∙ foremost-here copy-judged (list-judged ∷ []) e ∙ ap (said_of_row 0) e) refl refl refl
+        settled (said_of_row 0 (Err (NoRoomForRows (copy_room copy)))) (past-rows ∙ foremost-here copy-judged (list-judged ∷ []) e ∙ ap (said_of_row 0) e) refl refl refl
 
     module _ (room : ltb (copy_room copy) (row_count rows) ≡ false) where
       past-copy : widen_judged rows names copy list ≡ foremost (list-judged ∷ [])
       past-copy = past-rows ∙ foremost-on copy-judged (list-judged ∷ []) (ap (λ (t : Bool). when t (NoRoomForRows (copy_room copy))) room)
 
-      pub list_full : ltb (list_room list) (changed rows names) ≡ true → Widens rows names copy list (told_widened (Refused (NoRoomForRows (list_room list)) 0)) copy list
+      pub list_full : ltb (list_room list) (changed rows names) ≡ true → Widens rows names copy list (told_widened (Err (record { why = NoRoomForRows (list_room list); row = 0 }))) copy list
       list_full h =
           let e = ap (λ (t : Bool). when t (NoRoomForRows (list_room list))) h in
-          settled (said_of_row 0 (verdict.Refused (NoRoomForRows (list_room list)))) (past-copy ∙ foremost-here list-judged [] e ∙ ap (said_of_row 0) e) refl refl refl
+          settled (said_of_row 0 (Err (NoRoomForRows (list_room list)))) (past-copy ∙ foremost-here list-judged [] e ∙ ap (said_of_row 0) e) refl refl refl
 
       -- the slices are as long as what was written says
       pub all-written : ltb (list_room list) (changed rows names) ≡ false → {count : ℕ} {paired : Bool} → count ≡ changed rows names → paired ≡ pairs (kernel_of rows names) →
-          {copy' list' : List ℕ} → Writes rows names copy list copy' list' → Widens rows names copy list (told_widened (Copied count paired)) copy' list'
+          {copy' list' : List ℕ} → Writes rows names copy list copy' list' → Widens rows names copy list (told_widened (Ok (record { changes = count; paired = paired }))) copy' list'
       all-written h {count} {paired} c p {copy'} {list'} w =
-          settled (said_of_row 0 verdict.Good) (past-copy ∙ foremost-on list-judged [] (ap (λ (t : Bool). when t (NoRoomForRows (list_room list))) h))
-          (rw (c, p) refl) (begun w.copy-left) (begun w.list_left)
+          settled (said_of_row 0 (Ok tt)) (past-copy ∙ foremost-on list-judged [] (ap (λ (t : Bool). when t (NoRoomForRows (list_room list))) h))
+          (rw (c, p) refl) (begun w.copy_left) (begun w.list_left)
         where
           begun : {old front new : List ℕ} {n : ℕ} → Begins old front n new → new ≡ front ++ drop (length front) old
           begun {old} {front} b = b.here ∙ ap (λ (n : ℕ). front ++ drop n old) (sym b.long)

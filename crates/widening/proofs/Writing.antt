@@ -103,4 +103,4 @@ module _ (rows names : List ℕ) where
       along_end z =
           let e : i ≡ row_count rows = omega (arith, a.within) in
           let d : done ≡ changed rows names = a.done-is ∙ ap (how_many (changes rows names)) e in
-          record { copy-left = rw e at a.copy-here; list_left = rw (d, e) at a.list-here }
+          record { copy_left = rw e at a.copy-here; list_left = rw (d, e) at a.list-here }

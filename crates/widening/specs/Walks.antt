@@ -1,6 +1,5 @@
 -- Instruments of the walks over the rows: what they lean on, and what each leaves.
-use Rattle.std.specs.Prelude.{◌≡◌, Bool, true, List, [], ◌∷◌, ℕ, ◌*◌, ◌<◌, ◌≤◌}
-use Rattle.refusals.specs.declared.Verdict.TheVariants.{Good}
+use Rattle.std.specs.Prelude.{◌≡◌, Bool, true, List, [], ◌∷◌, ℕ, ◌*◌, ◌<◌, ◌≤◌, Ok}
 use Rattle.bounds.specs.Tables.{lookup}
 use Rattle.rows.specs.Rows.{row_width, most_rows}
 use Rattle.coded.specs.Coded.{read_verdict}
@@ -22,7 +21,7 @@ mark_of kind = lookup kind marks (mark 1 0 0)
 
 -- ---- every row is read
 abbrev pub AllRead : List ℕ → List ℕ → Type 0
-AllRead rows names = (i : ℕ) → i < row_count rows → read_verdict (row_at rows names i) ≡ Good
+AllRead rows names = (i : ℕ) → i < row_count rows → read_verdict (row_at rows names i) ≡ Ok tt
 
 -- this is whether loops pair, whatever the names
 abbrev pub PairsBy : List ℕ → Bool → Type 0
@@ -40,5 +39,5 @@ pub record Listing (rows names : List ℕ) (paired : Bool) : Type 0 where
 
 -- what stands in the copy and in the list of changes once every row is taken
 pub record Writes (rows names copy list copy' list' : List ℕ) : Type 0 where
-  pub copy-left : Begins copy (gather (copied rows names) (row_count rows)) (row_count rows * row_width) copy'
+  pub copy_left : Begins copy (gather (copied rows names) (row_count rows)) (row_count rows * row_width) copy'
   pub list_left : Begins list (gather (listed rows names) (row_count rows)) (change_width * changed rows names) list'

@@ -1,10 +1,9 @@
 -- Document 02, wish 6: "takes rows, copies them to a lent slice and, in the last 11 instructions of each loop body, turns Nop into WideNop, and
 -- the post-modify and pre-modify DM moves into a memory move without compute. It lists each changed row number with the old kind, in row order."
-use Rattle.std.specs.Prelude.{◌≡◌, Bool, true, false, cond, not, ◌&&◌, ◌||◌, List, [], ◌∷◌, ◌++◌, ℕ, zero, suc, ◌+◌, ◌*◌, ◌/◌, ◌≤◌, pos, length, take, drop, replicate, eqb, ltb}
+use Rattle.std.specs.Prelude.{◌≡◌, Bool, true, false, cond, not, ◌&&◌, ◌||◌, List, [], ◌∷◌, ◌++◌, ℕ, zero, suc, ◌+◌, ◌*◌, ◌/◌, ◌≤◌, pos, length, take, drop, replicate, eqb, ltb, Ok, Err, Result}
 use Rattle.refusals.specs.declared.Refusal.TheVariants.{NoRoomForRows}
-use Rattle.refusals.specs.declared.Verdict.{Verdict}
-use Rattle.refusals.specs.declared.Verdict.TheVariants as verdict
-use Rattle.refusals.specs.declared.Judged.{Judged}
+use Rattle.refusals.specs.Answers.{Verdict, Judged}
+use Rattle.refusals.specs.declared.Refused.{Refused}
 use Rattle.refusals.specs.Numbers.{told_of}
 use Rattle.refusals.specs.Order.{when, if_good, said_of_row, foremost}
 use Rattle.bounds.specs.Tables.{lookup, at}
@@ -14,8 +13,7 @@ use Rattle.places.specs.Items.{Kernel, kernel_of, row_count, is_end, nest}
 use Rattle.places.specs.Looking.{is_found, newest, is_in_tail}
 use Rattle.places.specs.Left.{gather}
 use Rattle.counts.specs.Counts.{list_judged, Passes}
-use Rattle.widening.specs.declared.Widened.{Widened}
-use Rattle.widening.specs.declared.Widened.TheVariants.{Copied, Refused}
+use Rattle.widening.specs.declared.Copied.{Copied}
 use Rattle.widening.specs.declared.ToldWidened.{ToldWidened}
 
 -- ---- which rows give way, and to what
@@ -103,27 +101,30 @@ widen_judged rows names copy list =
     ∷ said_of_row 0 (when (ltb (list_room list) (changed rows names)) (NoRoomForRows (list_room list)))
     ∷ [])
 
--- the rows changed, and whether loops pair; or why nothing was written
+-- the rows changed, and whether loops pair; or why nothing was written, and the row that this names
+abbrev pub Widened : Type 0
+Widened = Result Copied Refused
+
 abbrev pub widened_in : ℕ → Verdict → ℕ → Bool → Widened
-widened_in row verdict.Good n paired = Copied n paired
-widened_in row (verdict.Refused r) n paired = Refused r row
+widened_in row (Ok _) n paired = Ok (record { changes = n; paired = paired })
+widened_in row (Err r) n paired = Err (record { why = r; row = row })
 
 abbrev pub widened_of : List ℕ → List ℕ → Judged → Widened
 widened_of rows names j = widened_in j.row j.verdict (changed rows names) (pairs (kernel_of rows names))
 
 -- and in numbers
 abbrev pub told_widened : Widened → ToldWidened
-told_widened (Copied n paired) = record { number = 0; changes = n; first = pos 0; second = pos 0; third = pos 0; paired = cond paired 1 0; spare = 0 }
-told_widened (Refused r row) =
-    record { number = (told_of r).number; changes = 0; first = (told_of r).first; second = (told_of r).second; third = pos row; paired = 0; spare = 0 }
+told_widened (Ok c) = record { number = 0; changes = c.changes; first = pos 0; second = pos 0; third = pos 0; paired = cond c.paired 1 0; spare = 0 }
+told_widened (Err e) =
+    record { number = (told_of e.why).number; changes = 0; first = (told_of e.why).first; second = (told_of e.why).second; third = pos e.row; paired = 0; spare = 0 }
 
 -- the new at the front of what was lent, if the verdict is good; "nothing is written in any refusal"
 abbrev pub laid : Verdict → List ℕ → List ℕ → List ℕ
 laid v new old = if_good v (new ++ drop (length new) old) old
 
 -- what is left in the copy and in the list of changes
-abbrev pub copy_left : List ℕ → List ℕ → List ℕ → List ℕ → List ℕ
-copy_left rows names copy list = laid (widen_judged rows names copy list).verdict (gather (copied rows names) (row_count rows)) copy
+abbrev pub left_copy : List ℕ → List ℕ → List ℕ → List ℕ → List ℕ
+left_copy rows names copy list = laid (widen_judged rows names copy list).verdict (gather (copied rows names) (row_count rows)) copy
 
 abbrev pub left_list : List ℕ → List ℕ → List ℕ → List ℕ → List ℕ
 left_list rows names copy list = laid (widen_judged rows names copy list).verdict (gather (listed rows names) (row_count rows)) list
@@ -131,11 +132,11 @@ left_list rows names copy list = laid (widen_judged rows names copy list).verdic
 -- THE CONTRACT: what is told and what is left in both slices
 pub record Widens (rows names copy list : List ℕ) (told : ToldWidened) (copy' list' : List ℕ) : Type 0 where
   pub answer : told ≡ told_widened (widened_of rows names (widen_judged rows names copy list))
-  pub copy-left : copy' ≡ copy_left rows names copy list
+  pub copy_left : copy' ≡ left_copy rows names copy list
   pub list_left : list' ≡ left_list rows names copy list
 
 -- none of the refusals is met: the list is well formed, every row is read, and there is room for the copy and for the changes
 pub record Fits (rows names copy list : List ℕ) : Type 0 where
   pub passes : Passes read_verdict rows names
-  pub copy-room : row_count rows ≤ copy_room copy
-  pub list-room : changed rows names ≤ list_room list
+  pub copy_fits : row_count rows ≤ copy_room copy
+  pub list_fits : changed rows names ≤ list_room list

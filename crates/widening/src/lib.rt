@@ -7,7 +7,7 @@ ghost use Rattle.places.specs.Items.{row_count};
 ghost use Rattle.widening.specs.Widening.{changes, changed, change_width, told_widened, Widens};
 ghost use Rattle.widening.specs.Walks.{Listing, Writes};
 
-use refusals::{Answer, Refusal};
+use refusals::{Refusal, Refused};
 use rows::ROW_WIDTH;
 
 mod tails;
@@ -16,12 +16,15 @@ mod twins;
 // The numbers of a change: row, old kind.
 const CHANGE_WIDTH: usize = 2;
 
-// How many rows were changed, and whether loops pair; or why nothing was written, and the row that this names.
+// How many rows were changed, and whether loops pair.
 #[derive(Clone, Copy)]
-pub enum Widened {
-    Copied { changes: u32, paired: bool },
-    Refused(Refusal, u32),
+pub struct Copied {
+    pub changes: u32,
+    pub paired: bool,
 }
+
+// What was copied; or why nothing was written, and the row that this names.
+pub type Widened = Result<Copied, Refused>;
 
 // The answer in numbers: 0, the rows changed, and 1 if loops pair; or a refusal's number and details.
 #[repr(C)]
@@ -36,32 +39,30 @@ pub struct ToldWidened {
     pub spare: u32,
 }
 
-impl Widened {
-    // The answer in numbers.
-    pub fn told(self) -> ToldWidened
-        ensures { result ≡ told_widened self }
-    {
-        match self {
-            Widened::Copied { changes, paired } => ToldWidened {
-                number: 0,
-                changes,
-                first: 0,
-                second: 0,
-                third: 0,
-                paired: if paired { 1 } else { 0 },
+// An answer in numbers.
+pub fn told(widened: Widened) -> ToldWidened
+    ensures { result ≡ told_widened widened }
+{
+    match widened {
+        Ok(copied) => ToldWidened {
+            number: 0,
+            changes: copied.changes,
+            first: 0,
+            second: 0,
+            third: 0,
+            paired: copied.paired as u32,
+            spare: 0,
+        },
+        Err(refused) => {
+            let told = refused.why.told();
+            ToldWidened {
+                number: told.number,
+                changes: 0,
+                first: told.first,
+                second: told.second,
+                third: refused.row as i64,
+                paired: 0,
                 spare: 0,
-            },
-            Widened::Refused(refusal, row) => {
-                let told = refusal.told();
-                ToldWidened {
-                    number: told.number,
-                    changes: 0,
-                    first: told.first,
-                    second: told.second,
-                    third: row as i64,
-                    paired: 0,
-                    spare: 0,
-                }
             }
         }
     }
@@ -72,31 +73,22 @@ fn is_changed(rows: &[u32], names: &[u8], paired: bool, i: usize) -> bool
     requires { Listing rows.now names.now paired × (i < row_count rows.now) }
     ensures { result ≡ changes rows.now names.now i }
 {
-    if !paired {
-        return false;
-    }
-    if !twins::has_twin(rows[i * ROW_WIDTH]) {
-        return false;
-    }
-    if !twins::encodes(coded::coded_at(rows, i, names.len())) {
-        return false;
-    }
-    tails::in_tail(rows, i)
+    paired
+        && twins::has_twin(rows[i * ROW_WIDTH])
+        && twins::encodes(coded::coded_at(rows, i, names.len()))
+        && tails::in_tail(rows, i)
 }
 
-// How many rows are changed.
+// How many rows are changed. (As a chain of `filter` and `count` it was left unproved.)
 fn count_changes(rows: &[u32], names: &[u8], paired: bool) -> usize
     requires { Listing rows.now names.now paired }
     ensures { (result ≡ changed rows.now names.now) × (result ≤ row_count rows.now) }
 {
-    let n = rows.len() / ROW_WIDTH;
     let mut count = 0;
-    let mut i = 0;
-    while i < n {
+    for i in 0..rows.len() / ROW_WIDTH {
         if is_changed(rows, names, paired, i) {
             count += 1;
         }
-        i += 1;
     }
     count
 }
@@ -109,9 +101,8 @@ fn list_change(rows: &[u32], changes: &mut [u32], i: usize, done: usize, change:
     if change {
         changes[CHANGE_WIDTH * done] = i as u32;
         changes[CHANGE_WIDTH * done + 1] = rows[i * ROW_WIDTH];
-        return done + 1;
     }
-    done
+    done + change as usize
 }
 
 // The rows in turn, each in the copy and, if it is changed, in the list of changes.
@@ -119,14 +110,11 @@ fn write(rows: &[u32], names: &[u8], paired: bool, copy: &mut [u32], changes: &m
     requires { Listing rows.now names.now paired × (length rows.now ≤ length copy.old) × (change_width * changed rows.now names.now ≤ length changes.old) }
     ensures { Writes rows.now names.now copy.old changes.old copy.new changes.new }
 {
-    let n = rows.len() / ROW_WIDTH;
     let mut done = 0;
-    let mut i = 0;
-    while i < n {
+    for i in 0..rows.len() / ROW_WIDTH {
         let change = is_changed(rows, names, paired, i);
         twins::put_copied(rows, copy, i, change);
         done = list_change(rows, changes, i, done, change);
-        i += 1;
     }
 }
 
@@ -135,26 +123,20 @@ fn write(rows: &[u32], names: &[u8], paired: bool, copy: &mut [u32], changes: &m
 pub fn widen(rows: &[u32], names: &[u8], copy: &mut [u32], changes: &mut [u32]) -> Widened
     ensures { Widens rows.now names.now copy.old changes.old (told_widened result) copy.new changes.new }
 {
-    let read = counts::instruction_count(rows, names);
-    match read {
-        Answer::Refused(why, row) => {
-            return Widened::Refused(why, row);
-        }
-        Answer::Accepted(_) => {}
-    }
+    counts::instruction_count(rows, names)?;
     let room = copy.len() / ROW_WIDTH;
     if room < rows.len() / ROW_WIDTH {
-        return Widened::Refused(Refusal::NoRoomForRows(room as u64), 0);
+        return Err(Refusal::NoRoomForRows(room as u64).at(0));
     }
     let paired = tails::loops_pair(rows);
     let count = count_changes(rows, names, paired);
     let list_room = changes.len() / CHANGE_WIDTH;
     if list_room < count {
-        return Widened::Refused(Refusal::NoRoomForRows(list_room as u64), 0);
+        return Err(Refusal::NoRoomForRows(list_room as u64).at(0));
     }
     write(rows, names, paired, copy, changes);
-    Widened::Copied {
+    Ok(Copied {
         changes: count as u32,
         paired,
-    }
+    })
 }

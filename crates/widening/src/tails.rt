@@ -2,7 +2,7 @@
 ghost use Rattle.std.specs.Prelude.{◌≡◌, ◌*◌, ◌<◌, get_or};
 ghost use Rattle.rows.specs.Rows.{row_width};
 ghost use Rattle.places.specs.Items.{row_count};
-ghost use Rattle.widening.specs.Walks.{mark, mark_of, PairsBy, TailedBy};
+ghost use Rattle.widening.specs.Walks.{mark_of, PairsBy, TailedBy};
 
 use places::LOOP_TAIL;
 use rows::ROW_WIDTH;
@@ -15,27 +15,15 @@ pub struct Counted {
     pub closes: usize,
 }
 
-// These numbers in their order.
-fn count_for(entry: usize, opens: usize, closes: usize) -> Counted
-    ensures { result ≡ mark entry opens closes }
-{
-    Counted {
-        entry,
-        opens,
-        closes,
-    }
-}
-
 // What a row of this kind counts for.
 #[tactic(auto, unfolding(crate::specs::Walks::mark_of))]
 fn mark(kind: u32) -> Counted
     ensures { result ≡ mark_of kind }
 {
-    match kind {
-        48 => count_for(0, 0, 0),
-        50 => count_for(1, 1, 0),
-        51 => count_for(0, 0, 1),
-        _ => count_for(1, 0, 0),
+    Counted {
+        entry: !matches!(kind, 48 | 51) as usize,
+        opens: (kind == 50) as usize,
+        closes: (kind == 51) as usize,
     }
 }
 
@@ -51,16 +39,13 @@ fn mark_at(rows: &[u32], i: usize) -> Counted
 pub fn loops_pair(rows: &[u32]) -> bool
     ensures { PairsBy rows.now result }
 {
-    let n = rows.len() / ROW_WIDTH;
     let mut depth = 0;
-    let mut i = 0;
-    while i < n {
+    for i in 0..rows.len() / ROW_WIDTH {
         let item = mark_at(rows, i);
         if depth < item.closes {
             return false;
         }
         depth = depth + item.opens - item.closes;
-        i += 1;
     }
     depth == 0
 }
@@ -71,18 +56,18 @@ pub fn in_tail(rows: &[u32], row: usize) -> bool
     requires { row < row_count rows.now }
     ensures { TailedBy rows.now row result }
 {
-    let n = rows.len() / ROW_WIDTH;
     let mut inner = 0;
     let mut seen = 1;
-    let mut i = row + 1;
-    while i < n && seen <= LOOP_TAIL {
+    for i in row + 1..rows.len() / ROW_WIDTH {
+        if seen > LOOP_TAIL {
+            break;
+        }
         let item = mark_at(rows, i);
         if inner < item.closes {
             return true;
         }
         inner = inner + item.opens - item.closes;
         seen += item.entry;
-        i += 1;
     }
     false
 }

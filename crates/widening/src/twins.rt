@@ -8,21 +8,14 @@ ghost use Rattle.places.specs.Items.{row_count};
 ghost use Rattle.widening.specs.Widening.{memory_move, has_twin, twin, row_of};
 
 use coded::Coded;
-use refusals::Verdict;
+use items::Item;
 use rows::ROW_WIDTH;
 
 // Whether a row of this kind gives way to a full-width twin: a post-modify or pre-modify DM move, or a `Nop`.
 pub fn has_twin(kind: u32) -> bool
     ensures { result ≡ has_twin (kind ∷ []) }
 {
-    match kind {
-        19 => true,
-        20 => true,
-        21 => true,
-        22 => true,
-        38 => true,
-        _ => false,
-    }
+    matches!(kind, 19..=22 | 38)
 }
 
 // Whether an item's instruction encodes; an item without one does.
@@ -30,25 +23,8 @@ pub fn encodes(item: Coded) -> bool
     ensures { result ≡ if_good (encodes item) true false }
 {
     match item {
-        Coded::Instruction(coding) => {
-            let form = coding.form;
-            is_good(encode::form_verdict(form))
-        }
-        Coded::Label { .. } => true,
-        Coded::Jump { .. } => true,
-        Coded::LoopBegin { .. } => true,
-        Coded::LoopEnd => true,
-        Coded::Refused(_) => true,
-    }
-}
-
-// Whether a verdict is good.
-fn is_good(verdict: Verdict) -> bool
-    ensures { result ≡ if_good verdict true false }
-{
-    match verdict {
-        Verdict::Good => true,
-        Verdict::Refused(_) => false,
+        Ok(Item::Instruction(coding)) => coding.form.is_ok(),
+        _ => true,
     }
 }
 
@@ -83,8 +59,7 @@ pub fn put_copied(rows: &[u32], copy: &mut [u32], i: usize, change: bool)
     if change {
         let row = twin_of(rows[a], rows[a + 1], rows[a + 2], rows[a + 3]);
         stores::put_row(copy, a, &row);
-        return;
+    } else {
+        stores::put_row(copy, a, &rows[a..a + ROW_WIDTH]);
     }
-    let e = a + ROW_WIDTH;
-    stores::put_row(copy, a, &rows[a..e]);
 }

@@ -11,10 +11,10 @@ use items::{Condition, Direction, LoopMode, Update};
 pub fn bit(b: bool) -> u64
     ensures { (result ≡ bit_of b) × (result < 2) }
 {
-    if b { 1 } else { 0 }
+    u64::from(b)
 }
 
-// The code of a condition.
+// The code of a condition: a table here, since `items`, where it could be each case's number, knows no bits.
 pub fn condition_code(c: Condition) -> u64
     ensures { (result ≡ condition_code c) × (result < 32) }
 {
@@ -33,30 +33,21 @@ pub fn condition_code(c: Condition) -> u64
 pub fn is_store(d: Direction) -> bool
     ensures { result ≡ is_store d }
 {
-    match d {
-        Direction::Load => false,
-        Direction::Store => true,
-    }
+    matches!(d, Direction::Store)
 }
 
 // Whether an access modifies its index afterwards.
 pub fn is_post(u: Update) -> bool
     ensures { result ≡ is_post u }
 {
-    match u {
-        Update::PostModify => true,
-        Update::PreModify => false,
-    }
+    matches!(u, Update::PostModify)
 }
 
 // Whether a loop's mode is F1-active.
 pub fn is_f1(m: LoopMode) -> bool
     ensures { result ≡ is_f1 m }
 {
-    match m {
-        LoopMode::E2Active => false,
-        LoopMode::F1Active => true,
-    }
+    matches!(m, LoopMode::F1Active)
 }
 
 // Type 2a around a compute's field.

@@ -1,5 +1,5 @@
-// A writer of parcels: it holds the lent parcels and the next free place, appends, and patches earlier places. Each function
-// that takes, makes or has one is thin, over the slice functions at the top; `emit` and `mend` keep it to themselves.
+// A writer of parcels: it holds the lent parcels and the next free place, appends, and patches earlier places. Its methods
+// are thin, over the slice function at the top; `emit` and `mend` keep it to themselves.
 #![tactic(auto)]
 
 ghost use Rattle.std.specs.Prelude.{◌≡◌, ◌+◌, ◌≤◌, length, take};
@@ -12,59 +12,37 @@ pub struct Writer<'a> {
     pub at: usize,
 }
 
-// The first n of six words stand in the parcels from `at` on. The answer is the place past them.
-fn put_run(parcels: &mut [u16], at: usize, words: [u16; 6], n: usize) -> usize
-    requires { (n ≤ 6) × (at + n ≤ length parcels.old) }
-    ensures { (result ≡ at + n) × (parcels.new ≡ sets parcels.old at (take n words)) }
+// Words stand in the parcels from a place on.
+#[tactic(auto, using(crate::proofs::Stores::copied))]
+fn put(parcels: &mut [u16], place: usize, words: &[u16])
+    requires { place + length words.now ≤ length parcels.old }
+    ensures { parcels.new ≡ sets parcels.old place words.now }
 {
-    let mut k = 0;
-    while k < n {
-        parcels[at + k] = words[k];
-        k += 1;
+    parcels[place..place + words.len()].copy_from_slice(words);
+}
+
+impl<'a> Writer<'a> {
+    // The first n of six words stand at the next free place, which moves on by n.
+    fn append(self, words: [u16; 6], n: usize) -> Writer<'a>
+        requires { (n ≤ 6) × (self.at + n ≤ length self.parcels.now) }
+        ensures { result ≡ appended self.entry words n }
+    {
+        let at = self.at;
+        put(self.parcels, at, &words[..n]);
+        Writer {
+            parcels: self.parcels,
+            at: at + n,
+        }
     }
-    at + n
-}
 
-// Three words stand in the parcels at a place.
-fn put_three(parcels: &mut [u16], place: usize, words: [u16; 3])
-    requires { place + 3 ≤ length parcels.old }
-    ensures { parcels.new ≡ sets parcels.old place words }
-{
-    parcels[place] = words[0];
-    parcels[place + 1] = words[1];
-    parcels[place + 2] = words[2];
-}
-
-// A writer of these parcels whose next free place is `at`.
-fn open<'a>(parcels: &'a mut [u16], at: usize) -> Writer<'a>
-    ensures { (result.parcels ≡ parcels.entry) × (result.at ≡ at) }
-{
-    Writer {
-        parcels: parcels,
-        at: at,
+    // Three earlier parcels are written anew. The next free place stays, and is handed back.
+    fn patch(self, place: usize, words: [u16; 3]) -> usize
+        requires { place + 3 ≤ length self.parcels.now }
+        ensures { (result ≡ self.entry.at) × (self.exit.0.now ≡ sets self.entry.parcels.now place words) }
+    {
+        put(self.parcels, place, &words);
+        self.at
     }
-}
-
-// The first n of six words stand at the next free place, which moves on by n.
-fn append<'a>(w: Writer<'a>, words: [u16; 6], n: usize) -> Writer<'a>
-    requires { (n ≤ 6) × (w.at + n ≤ length w.parcels.now) }
-    ensures { result ≡ appended w.entry words n }
-{
-    let at = w.at;
-    let next = put_run(&mut *w.parcels, at, words, n);
-    Writer {
-        parcels: w.parcels,
-        at: next,
-    }
-}
-
-// Three earlier parcels are written anew. The next free place stays, and is handed back.
-fn patch<'a>(w: Writer<'a>, place: usize, words: [u16; 3]) -> usize
-    requires { place + 3 ≤ length w.parcels.now }
-    ensures { (result ≡ w.entry.at) × (w.exit.0.now ≡ sets w.entry.parcels.now place words) }
-{
-    put_three(&mut *w.parcels, place, words);
-    w.at
 }
 
 // A writer that has gone on at `at` by the first n of six words.
@@ -72,16 +50,15 @@ fn ahead<'a>(parcels: &'a mut [u16], at: usize, words: [u16; 6], n: usize) -> Wr
     requires { (n ≤ 6) × (at + n ≤ length parcels.old) }
     ensures { result ≡ appended (record { parcels = parcels.entry; at = at }) words n }
 {
-    append(open(parcels, at), words, n)
+    Writer { parcels, at }.append(words, n)
 }
 
-// A writer that goes on at `at` appends the first n of six words. The answer is its next free place.
+// A writer that goes on at `at` appends the first n of six words, as an instruction's parcels come. The answer is its next free place.
 pub fn emit(parcels: &mut [u16], at: usize, words: [u16; 6], n: usize) -> usize
     requires { (n ≤ 6) × (at + n ≤ length parcels.old) }
     ensures { (result ≡ at + n) × (parcels.new ≡ sets parcels.old at (take n words)) }
 {
-    let w = ahead(parcels, at, words, n);
-    w.at
+    ahead(parcels, at, words, n).at
 }
 
 // A writer whose next free place is `at` patches three earlier parcels. The answer is its next free place, which stays.
@@ -89,5 +66,5 @@ pub fn mend(parcels: &mut [u16], at: usize, place: usize, words: [u16; 3]) -> us
     requires { place + 3 ≤ length parcels.old }
     ensures { (result ≡ at) × (parcels.new ≡ sets parcels.old place words) }
 {
-    patch(open(parcels, at), place, words)
+    Writer { parcels, at }.patch(place, words)
 }

@@ -5,6 +5,3 @@ use Rattle.bounds.proofs.eight.Given as goal
 
 abbrev pub invariant-loop-k : goal.invariant-loop-k
 invariant-loop-k l = record { in_range : l.k ≤ 8; is : l.found ≡ tail_places l.bounds (drop l.from l.row) l.fn.rest l.k }
-
-abbrev pub decreases-loop-k : goal.decreases-loop-k
-decreases-loop-k l = l.k

@@ -5,6 +5,3 @@ use Rattle.ends.proofs.last_instruction.Given as goal
 
 abbrev pub invariant-loop-i : goal.invariant-loop-i
 invariant-loop-i l = After (row_at l.rows l.names) l.end l.i
-
-abbrev pub decreases-loop-i : goal.decreases-loop-i
-decreases-loop-i l = l.i

@@ -5,6 +5,3 @@ use Rattle.ends.proofs.tail_check.Given as goal
 
 abbrev pub invariant-loop-i : goal.invariant-loop-i
 invariant-loop-i l = Behind (row_at l.rows l.names) l.end l.i l.place l.seen
-
-abbrev pub decreases-loop-i : goal.decreases-loop-i
-decreases-loop-i l = l.i

@@ -1,5 +1,5 @@
 -- Each arm is right about its row: its kind's bounds hold the line's limits, and its form is the line's word.
-use Rattle.std.proofs.Common.{refl, ap, ◌∙◌, true, false, cond, ◌%◌, ℤ, pos, negsuc, arith, to_z-of_z, w32}
+use Rattle.std.proofs.Common.{refl, sym, ap, ◌∙◌, true, false, ◌%◌, ℤ, pos, negsuc, arith, to_z-of_z, w32}
 use borrow.Author.Rules.{sfits_of}
 use Rattle.fields.specs.Pack.{pack}
 use Rattle.signs.specs.Signs.{folded, within}
@@ -10,145 +10,94 @@ use Rattle.encode.specs.Encoding.{form_of}
 use Rattle.bounds.specs.Tables.{at}
 use Rattle.bounds.specs.Bounds.{fields}
 use Rattle.rows.specs.Fields.{condition_of, bool_of, signed, scalars, transfers, others, instruction_of}
-use Rattle.combined.specs.declared.Glance.{Glance}
-use Rattle.combined.specs.declared.Glance.TheVariants.{Other}
-use Rattle.combined.specs.Single.{third_of, single_word}
-use Rattle.glances.specs.Glances.{fits_of, access_in, jump_seen, immediate_in}
-use Rattle.glances.proofs.Lines.{line, line_in, worded, paired, shorted, branched, leaves, singled, chosen, reached, unmixed, barred, post_form, pre_form, access-form, jump-form, call-form, immediate_form}
+use Rattle.glances.specs.Glances.{access_in, jump_seen, immediate_in}
+use Rattle.glances.proofs.Lines.{line, line_in, worded, paired, shorted, branched, leaves, chosen, reached, unmixed, post_form, pre_form, access-form, jump-form, call-form, immediate_form}
 use Rattle.glances.proofs.seen.Goals as goal
-
-pub returns-in-0 : goal.returns-in-0
-unfolding fields instruction_of scalars layout_of form_of third_of single_word
-returns-in-0 c = singled c.args.row.now c.requires 0 c.in-0.is (line c.args.row.now 0 15 15 (third_of 0) c.in-0.is refl (λ _. refl) (refl, refl, refl, refl, refl, refl, refl) (λ _ _ _. refl)) refl c.single.ensures
-
-pub returns-in-1 : goal.returns-in-1
-unfolding fields instruction_of scalars layout_of form_of third_of single_word
-returns-in-1 c = singled c.args.row.now c.requires 1 c.in-1.is (line c.args.row.now 1 15 15 (third_of 1) c.in-1.is refl (λ _. refl) (refl, refl, refl, refl, refl, refl, refl) (λ _ _ _. refl)) refl c.single-in-1.ensures
-
-pub returns-in-2 : goal.returns-in-2
-unfolding fields instruction_of scalars layout_of form_of third_of single_word
-returns-in-2 c = singled c.args.row.now c.requires 2 c.in-2.is (line c.args.row.now 2 15 15 (third_of 2) c.in-2.is refl (λ _. refl) (refl, refl, refl, refl, refl, refl, refl) (λ _ _ _. refl)) refl c.single-in-2.ensures
-
-pub returns-in-3 : goal.returns-in-3
-unfolding fields instruction_of scalars layout_of form_of third_of single_word
-returns-in-3 c = singled c.args.row.now c.requires 3 c.in-3.is (line c.args.row.now 3 15 15 (third_of 3) c.in-3.is refl (λ _. refl) (refl, refl, refl, refl, refl, refl, refl) (λ _ _ _. refl)) refl c.single-in-3.ensures
-
-pub returns-in-4 : goal.returns-in-4
-unfolding fields instruction_of scalars layout_of form_of third_of single_word
-returns-in-4 c = singled c.args.row.now c.requires 4 c.in-4.is (line c.args.row.now 4 15 15 (third_of 4) c.in-4.is refl (λ _. refl) (refl, refl, refl, refl, refl, refl, refl) (λ _ _ _. refl)) refl c.single-in-4.ensures
-
-pub returns-in-5 : goal.returns-in-5
-unfolding fields instruction_of scalars layout_of form_of third_of single_word
-returns-in-5 c = singled c.args.row.now c.requires 5 c.in-5.is (line c.args.row.now 5 15 15 (third_of 5) c.in-5.is refl (λ _. refl) (refl, refl, refl, refl, refl, refl, refl) (λ _ _ _. refl)) refl c.single-in-5.ensures
-
-pub returns-in-6 : goal.returns-in-6
-unfolding fields instruction_of scalars layout_of form_of third_of single_word
-returns-in-6 c = singled c.args.row.now c.requires 6 c.in-6.is (line c.args.row.now 6 15 15 (third_of 6) c.in-6.is refl (λ _. refl) (refl, refl, refl, refl, refl, refl, refl) (λ _ _ _. refl)) refl c.single-in-6.ensures
-
-pub returns-in-7 : goal.returns-in-7
-unfolding fields instruction_of scalars layout_of form_of third_of single_word
-returns-in-7 c = singled c.args.row.now c.requires 7 c.in-7.is (line c.args.row.now 7 15 15 (third_of 7) c.in-7.is refl (λ _. refl) (refl, refl, refl, refl, refl, refl, refl) (λ _ _ _. refl)) refl c.single-in-7.ensures
-
-pub returns-in-8 : goal.returns-in-8
-unfolding fields instruction_of scalars layout_of form_of third_of single_word
-returns-in-8 c = singled c.args.row.now c.requires 8 c.in-8.is (line c.args.row.now 8 15 15 (third_of 8) c.in-8.is refl (λ _. refl) (refl, refl, refl, refl, refl, refl, refl) (λ _ _ _. refl)) refl c.single-in-8.ensures
 
 pub returns-in-9 : goal.returns-in-9
 unfolding fields instruction_of scalars layout_of form_of
-returns-in-9 c = worded c.args.row.now c.requires c.long_word.ensures (line c.args.row.now 9 15 4294967295 0 c.in-9.is refl (λ _. refl) (refl, refl, refl, refl, refl, refl, refl) (λ _ _ _. refl)) refl c.word.ensures
+returns-in-9 c = worded c.args.row.now c.told-row c.long_word.ensures (line c.args.row.now 9 15 4294967295 0 c.in-9.is refl (λ _. refl) (refl, refl, refl, refl, refl, refl, refl) (λ _ _ _. refl)) refl c.if-fits.ensures
 
 pub returns-in-10 : goal.returns-in-10
 unfolding fields instruction_of scalars layout_of form_of
-returns-in-10 c = worded c.args.row.now c.requires c.move_word.ensures (line c.args.row.now 10 15 15 0 c.in-10.is refl (λ _. refl) (refl, refl, refl, refl, refl, refl, refl) (λ _ _ _. refl)) refl c.word-in-10.ensures
+returns-in-10 c = worded c.args.row.now c.told-row c.move_word.ensures (line c.args.row.now 10 15 15 0 c.in-10.is refl (λ _. refl) (refl, refl, refl, refl, refl, refl, refl) (λ _ _ _. refl)) refl c.if-fits-2.ensures
 
 pub returns-in-11 : goal.returns-in-11
 unfolding fields instruction_of scalars layout_of form_of
-returns-in-11 c = worded c.args.row.now c.requires c.long_word-in-11.ensures (line c.args.row.now 11 15 4294967295 0 c.in-11.is refl (λ _. refl) (refl, refl, refl, refl, refl, refl, refl) (λ _ _ _. refl)) refl c.word-in-11.ensures
+returns-in-11 c = worded c.args.row.now c.told-row c.long_word-in-11.ensures (line c.args.row.now 11 15 4294967295 0 c.in-11.is refl (λ _. refl) (refl, refl, refl, refl, refl, refl, refl) (λ _ _ _. refl)) refl c.if-fits-3.ensures
 
 pub returns-in-12 : goal.returns-in-12
 unfolding fields instruction_of scalars layout_of form_of
-returns-in-12 c = worded c.args.row.now c.requires c.long_word-in-12.ensures (line c.args.row.now 12 15 4294967295 0 c.in-12.is refl (λ _. refl) (refl, refl, refl, refl, refl, refl, refl) (λ _ _ _. refl)) refl c.word-in-12.ensures
+returns-in-12 c = worded c.args.row.now c.told-row c.long_word-in-12.ensures (line c.args.row.now 12 15 4294967295 0 c.in-12.is refl (λ _. refl) (refl, refl, refl, refl, refl, refl, refl) (λ _ _ _. refl)) refl c.if-fits-4.ensures
 
 pub returns-in-16 : goal.returns-in-16
 unfolding fields instruction_of transfers layout_of form_of
-returns-in-16 c = paired c.args.row.now c.requires c.transfer_word.ensures (line c.args.row.now 16 95 95 0 c.in-16.is refl (λ _. refl) (refl, refl, refl, refl, refl, refl, refl) (λ _ _ _. refl)) refl c.pair.ensures
+returns-in-16 c = paired c.args.row.now c.told-row c.transfer_word.ensures (line c.args.row.now 16 95 95 0 c.in-16.is refl (λ _. refl) (refl, refl, refl, refl, refl, refl, refl) (λ _ _ _. refl)) refl c.if-fits-5.ensures
 
 pub returns-in-17 : goal.returns-in-17
 unfolding fields instruction_of transfers layout_of form_of
-returns-in-17 c = worded c.args.row.now c.requires c.long_word-in-17.ensures (line c.args.row.now 17 95 4294967295 0 c.in-17.is refl (λ _. refl) (refl, refl, refl, refl, refl, refl, refl) (λ _ _ _. refl)) refl c.word-in-17.ensures
+returns-in-17 c = worded c.args.row.now c.told-row c.long_word-in-17.ensures (line c.args.row.now 17 95 4294967295 0 c.in-17.is refl (λ _. refl) (refl, refl, refl, refl, refl, refl, refl) (λ _ _ _. refl)) refl c.if-fits-6.ensures
 
 pub returns-in-18 : goal.returns-in-18
 unfolding fields instruction_of transfers layout_of form_of
-returns-in-18 c = worded c.args.row.now c.requires (c.modify_index.ensures ∙ ap (λ (z : ℤ). pack (modify19a (at c.args.row.now 1 % 256) (folded 32 z))) (to_z-of_z {w = w32} (sfits_of c.signed-y.type_inv) ∙ c.signed-y.ensures)) (line c.args.row.now 18 15 4294967295 0 c.in-18.is refl (λ _. refl) (refl, refl, refl, refl, refl, refl, refl) (λ _ _ _. refl)) refl c.word-in-18.ensures
+returns-in-18 c = worded c.args.row.now c.told-row (c.modify_index.ensures ∙ ap (λ (z : ℤ). pack (modify19a (at c.args.row.now 1 % 256) (folded 32 z))) (to_z-of_z {w = w32} (sfits_of c.signed-y.type_inv) ∙ c.signed-y.ensures)) (line c.args.row.now 18 15 4294967295 0 c.in-18.is refl (λ _. refl) (refl, refl, refl, refl, refl, refl, refl) (λ _ _ _. refl)) refl c.if-fits-7.ensures
 
 pub returns-in-19 : goal.returns-in-19
 unfolding fields instruction_of transfers layout_of form_of
-returns-in-19 c = shorted c.args.row.now c.requires c.post_word.ensures (line_in c.args.row.now 19 95 15 15 15 7 7 c.in-19.is (omega arith) (omega arith) (omega arith) refl (λ _. refl) (refl, refl, refl, refl, refl, refl, refl) (λ p q r. post_form false _ _ _ p q r)) refl c.short.ensures
+returns-in-19 c = shorted c.args.row.now c.told-row c.post_word.ensures (line_in c.args.row.now 19 95 15 15 15 7 7 c.in-19.is (omega arith) (omega arith) (omega arith) refl (λ _. refl) (refl, refl, refl, refl, refl, refl, refl) (λ p q r. post_form false _ _ _ p q r)) refl c.if-fits-8.ensures
 
 pub returns-in-20 : goal.returns-in-20
 unfolding fields instruction_of transfers layout_of form_of
-returns-in-20 c = shorted c.args.row.now c.requires c.post_word-in-20.ensures (line_in c.args.row.now 20 95 15 15 15 7 7 c.in-20.is (omega arith) (omega arith) (omega arith) refl (λ _. refl) (refl, refl, refl, refl, refl, refl, refl) (λ p q r. post_form true _ _ _ p q r)) refl c.short-in-20.ensures
+returns-in-20 c = shorted c.args.row.now c.told-row c.post_word-in-20.ensures (line_in c.args.row.now 20 95 15 15 15 7 7 c.in-20.is (omega arith) (omega arith) (omega arith) refl (λ _. refl) (refl, refl, refl, refl, refl, refl, refl) (λ p q r. post_form true _ _ _ p q r)) refl c.if-fits-9.ensures
 
 pub returns-in-21 : goal.returns-in-21
 unfolding fields instruction_of transfers layout_of form_of
-returns-in-21 c = paired c.args.row.now c.requires c.pre_word.ensures (line_in c.args.row.now 21 95 15 15 95 7 7 c.in-21.is (omega arith) (omega arith) (omega arith) refl (λ _. refl) (refl, refl, refl, refl, refl, refl, refl) (λ p q r. pre_form false _ _ _ refl q r)) refl c.pair-in-21.ensures
-
-pub returns-in-22 : goal.returns-in-22
-unfolding fields instruction_of transfers layout_of form_of
-returns-in-22 c = barred c.args.row.now _ _ c.stored.ensures (λ clash. paired c.args.row.now c.requires c.pre_word-in-22.ensures (line_in c.args.row.now 22 95 15 15 95 7 7 c.in-22.is (omega arith) (omega arith) (omega arith) refl (λ _. refl) (refl, refl, refl, refl, refl, refl, refl) (λ p q r. pre_form true _ _ _ clash q r)) refl c.pair-in-22.ensures)
-
-pub returns-in-23 : goal.returns-in-23
-unfolding fields instruction_of transfers layout_of form_of access_in
-returns-in-23 c = chosen c.args.row.now c.requires (within (negsuc 63) (pos 63) (signed (at c.args.row.now 3))) _ _ (line_in c.args.row.now 23 95 15 4294967295 95 7 4294967295 c.in-23.is (omega arith) (omega arith) (omega arith) refl (λ _. refl) (refl, refl, refl, refl, refl, refl, refl) (λ p q r. access-form false (at c.args.row.now 1) (at c.args.row.now 2) (signed (at c.args.row.now 3)) refl q)) refl (c.given.ensures ∙ ap (λ (g : Glance). cond (fits_of 95 7 4294967295 c.args.row.now) g Other) (c.access.ensures ∙ ap (λ (z : ℤ). access_in (at c.args.row.now 1 % 256) (at c.args.row.now 2 % 256) z false) (to_z-of_z {w = w32} (sfits_of c.signed-z.type_inv) ∙ c.signed-z.ensures)))
-
-pub returns-in-24 : goal.returns-in-24
-unfolding fields instruction_of transfers layout_of form_of access_in
-returns-in-24 c = barred c.args.row.now _ _ c.stored-in-24.ensures (λ clash. chosen c.args.row.now c.requires (within (negsuc 63) (pos 63) (signed (at c.args.row.now 3))) _ _ (line_in c.args.row.now 24 95 15 4294967295 95 7 4294967295 c.in-24.is (omega arith) (omega arith) (omega arith) refl (λ _. refl) (refl, refl, refl, refl, refl, refl, refl) (λ p q r. access-form true (at c.args.row.now 1) (at c.args.row.now 2) (signed (at c.args.row.now 3)) clash q)) refl (c.given-in-24.ensures ∙ ap (λ (g : Glance). cond (fits_of 95 7 4294967295 c.args.row.now) g Other) (c.access-in-24.ensures ∙ ap (λ (z : ℤ). access_in (at c.args.row.now 1 % 256) (at c.args.row.now 2 % 256) z true) (to_z-of_z {w = w32} (sfits_of c.signed-z.type_inv) ∙ c.signed-z.ensures))))
-
-pub returns-in-25 : goal.returns-in-25
-unfolding fields instruction_of others layout_of form_of third_of single_word
-returns-in-25 c = singled c.args.row.now c.requires 25 c.in-25.is (line c.args.row.now 25 15 15 (third_of 25) c.in-25.is refl (λ _. refl) (refl, refl, refl, refl, refl, refl, refl) (λ _ _ _. refl)) refl c.single-in-25.ensures
-
-pub returns-in-26 : goal.returns-in-26
-unfolding fields instruction_of others layout_of form_of third_of single_word
-returns-in-26 c = singled c.args.row.now c.requires 26 c.in-26.is (line c.args.row.now 26 15 15 (third_of 26) c.in-26.is refl (λ _. refl) (refl, refl, refl, refl, refl, refl, refl) (λ _ _ _. refl)) refl c.single-in-26.ensures
-
-pub returns-in-27 : goal.returns-in-27
-unfolding fields instruction_of others layout_of form_of third_of single_word
-returns-in-27 c = singled c.args.row.now c.requires 27 c.in-27.is (line c.args.row.now 27 15 15 (third_of 27) c.in-27.is refl (λ _. refl) (refl, refl, refl, refl, refl, refl, refl) (λ _ _ _. refl)) refl c.single-in-27.ensures
-
-pub returns-in-28 : goal.returns-in-28
-unfolding fields instruction_of others layout_of form_of jump_seen
-returns-in-28 c = reached c.args.row.now c.requires (within (negsuc 0x7f_ffff) (pos 0x7f_ffff) (signed (at c.args.row.now 2))) _ (λ near. (line c.args.row.now 28 6 4294967295 1 c.in-28.is refl (λ _. refl) (refl, refl, refl, refl, refl, refl, refl) (λ p q r. jump-form (condition_of (at c.args.row.now 1)) (signed (at c.args.row.now 2)) (bool_of (at c.args.row.now 3)) near))) (c.given-in-28.ensures ∙ ap (λ (g : Glance). cond (fits_of 6 4294967295 1 c.args.row.now) g Other) (c.jump.ensures ∙ ap (λ (z : ℤ). jump_seen (condition_of (at c.args.row.now 1)) z (bool_of (at c.args.row.now 3))) (to_z-of_z {w = w32} (sfits_of c.signed-y.type_inv) ∙ c.signed-y.ensures)))
+returns-in-21 c = paired c.args.row.now c.told-row c.pre_word.ensures (line_in c.args.row.now 21 95 15 15 95 7 7 c.in-21.is (omega arith) (omega arith) (omega arith) refl (λ _. refl) (refl, refl, refl, refl, refl, refl, refl) (λ p q r. pre_form false _ _ _ refl q r)) refl c.if-fits-10.ensures
 
 pub returns-in-29 : goal.returns-in-29
 unfolding fields instruction_of others
-returns-in-29 c = branched c.args.row.now c.requires c.call_word.ensures (line_in c.args.row.now 29 4294967295 0 0 16777215 0 0 c.in-29.is (omega arith) (omega arith) (omega arith) refl (λ _. refl) (refl, refl, refl, refl, refl, refl, refl) (λ p q r. call-form _ p)) c.given-in-29.ensures
+returns-in-29 c = branched c.args.row.now c.told-row c.call_word.ensures (line_in c.args.row.now 29 4294967295 0 0 16777215 0 0 c.in-29.is (omega arith) (omega arith) (omega arith) refl (λ _. refl) (refl, refl, refl, refl, refl, refl, refl) (λ p q r. call-form _ p)) c.if-fits-15.ensures
 
 pub returns-in-30 : goal.returns-in-30
 unfolding fields instruction_of others layout_of form_of
-returns-in-30 c = worded c.args.row.now c.requires c.store_word.ensures (line c.args.row.now 30 4294967295 0 0 c.in-30.is refl (λ _. refl) (refl, refl, refl, refl, refl, refl, refl) (λ _ _ _. refl)) refl c.word-in-30.ensures
+returns-in-30 c = worded c.args.row.now c.told-row c.store_word.ensures (line c.args.row.now 30 4294967295 0 0 c.in-30.is refl (λ _. refl) (refl, refl, refl, refl, refl, refl, refl) (λ _ _ _. refl)) refl c.if-fits-16.ensures
 
 pub returns-in-31 : goal.returns-in-31
 unfolding fields instruction_of others layout_of form_of
-returns-in-31 c = leaves c.args.row.now c.requires (line c.args.row.now 31 0 0 0 c.in-31.is refl (λ _. refl) (refl, refl, refl, refl, refl, refl, refl) (λ _ _ _. refl)) c.given-in-31.ensures
-
-pub returns-in-35 : goal.returns-in-35
-unfolding fields instruction_of others immediate_in
-returns-in-35 c = unmixed c.args.row.now c.requires (mixed (at c.args.row.now 1 % 256) (at c.args.row.now 2 % 256)) _ (λ clash. (line c.args.row.now 35 15 15 4294967295 c.in-35.is refl (λ _. refl) (refl, refl, refl, refl, refl, refl, refl) (λ p q r. immediate_form _ _ _ clash))) refl (rw c.immediate.ensures at c.given-in-35.ensures)
+returns-in-31 c = leaves c.args.row.now c.told-row (line c.args.row.now 31 0 0 0 c.in-31.is refl (λ _. refl) (refl, refl, refl, refl, refl, refl, refl) (λ _ _ _. refl)) c.if-fits-17.ensures
 
 pub returns-in-36 : goal.returns-in-36
 unfolding fields instruction_of others layout_of form_of
-returns-in-36 c = worded c.args.row.now c.requires c.mode_word.ensures (line c.args.row.now 36 4294967295 0 0 c.in-36.is refl (λ _. refl) (refl, refl, refl, refl, refl, refl, refl) (λ _ _ _. refl)) refl c.word-in-36.ensures
+returns-in-36 c = worded c.args.row.now c.told-row c.mode_word.ensures (line c.args.row.now 36 4294967295 0 0 c.in-36.is refl (λ _. refl) (refl, refl, refl, refl, refl, refl, refl) (λ _ _ _. refl)) refl c.if-fits-19.ensures
 
 pub returns-in-37 : goal.returns-in-37
 unfolding fields instruction_of others layout_of form_of
-returns-in-37 c = worded c.args.row.now c.requires c.mode_word-in-37.ensures (line c.args.row.now 37 4294967295 0 0 c.in-37.is refl (λ _. refl) (refl, refl, refl, refl, refl, refl, refl) (λ _ _ _. refl)) refl c.word-in-37.ensures
+returns-in-37 c = worded c.args.row.now c.told-row c.mode_word-in-37.ensures (line c.args.row.now 37 4294967295 0 0 c.in-37.is refl (λ _. refl) (refl, refl, refl, refl, refl, refl, refl) (λ _ _ _. refl)) refl c.if-fits-20.ensures
 
 pub returns-in-38 : goal.returns-in-38
 unfolding fields instruction_of others layout_of form_of
-returns-in-38 c = shorted c.args.row.now c.requires refl (line c.args.row.now 38 0 0 0 c.in-38.is refl (λ _. refl) (refl, refl, refl, refl, refl, refl, refl) (λ _ _ _. refl)) refl c.short-in-38.ensures
+returns-in-38 c = shorted c.args.row.now c.told-row refl (line c.args.row.now 38 0 0 0 c.in-38.is refl (λ _. refl) (refl, refl, refl, refl, refl, refl, refl) (λ _ _ _. refl)) refl c.if-fits-21.ensures
 
 pub returns-in-39 : goal.returns-in-39
 unfolding fields instruction_of others layout_of form_of
-returns-in-39 c = worded c.args.row.now c.requires refl (line c.args.row.now 39 0 0 0 c.in-39.is refl (λ _. refl) (refl, refl, refl, refl, refl, refl, refl) (λ _ _ _. refl)) refl c.word-in-39.ensures
+returns-in-39 c = worded c.args.row.now c.told-row refl (line c.args.row.now 39 0 0 0 c.in-39.is refl (λ _. refl) (refl, refl, refl, refl, refl, refl, refl) (λ _ _ _. refl)) refl c.if-fits-22.ensures
+
+pub returns-in-22 : goal.returns-in-22
+unfolding fields instruction_of transfers layout_of form_of
+returns-in-22 c = paired c.args.row.now c.told-row c.pre_word-in-22.ensures (line_in c.args.row.now 22 95 15 15 95 7 7 c.in-22.is (omega arith) (omega arith) (omega arith) refl (λ _. refl) (refl, refl, refl, refl, refl, refl, refl) (λ p q r. pre_form true _ _ _ (sym c.if-not-in_dag.ensures) q r)) refl c.if-fits-11.ensures
+
+pub returns-in-23 : goal.returns-in-23
+unfolding fields instruction_of transfers layout_of form_of access_in
+returns-in-23 c = chosen c.args.row.now c.told-row (within (negsuc 63) (pos 63) (signed (at c.args.row.now 3))) _ _ (line_in c.args.row.now 23 95 15 4294967295 95 7 4294967295 c.in-23.is (omega arith) (omega arith) (omega arith) refl (λ _. refl) (refl, refl, refl, refl, refl, refl, refl) (λ p q r. access-form false (at c.args.row.now 1) (at c.args.row.now 2) (signed (at c.args.row.now 3)) refl q)) refl c.if-fits-12.ensures (c.access.ensures ∙ ap (λ (z : ℤ). access_in (at c.args.row.now 1 % 256) (at c.args.row.now 2 % 256) z false) (to_z-of_z {w = w32} (sfits_of c.signed-z.type_inv) ∙ c.signed-z.ensures))
+
+pub returns-in-24 : goal.returns-in-24
+unfolding fields instruction_of transfers layout_of form_of access_in
+returns-in-24 c = chosen c.args.row.now c.told-row (within (negsuc 63) (pos 63) (signed (at c.args.row.now 3))) _ _ (line_in c.args.row.now 24 95 15 4294967295 95 7 4294967295 c.in-24.is (omega arith) (omega arith) (omega arith) refl (λ _. refl) (refl, refl, refl, refl, refl, refl, refl) (λ p q r. access-form true (at c.args.row.now 1) (at c.args.row.now 2) (signed (at c.args.row.now 3)) (sym c.if-not-in_dag-2.ensures) q)) refl c.if-fits-13.ensures (c.access-in-24.ensures ∙ ap (λ (z : ℤ). access_in (at c.args.row.now 1 % 256) (at c.args.row.now 2 % 256) z true) (to_z-of_z {w = w32} (sfits_of c.signed-z.type_inv) ∙ c.signed-z.ensures))
+
+pub returns-in-28 : goal.returns-in-28
+unfolding fields instruction_of others layout_of form_of jump_seen
+returns-in-28 c = reached c.args.row.now c.told-row (within (negsuc 0x7f_ffff) (pos 0x7f_ffff) (signed (at c.args.row.now 2))) _ (λ near. (line c.args.row.now 28 6 4294967295 1 c.in-28.is refl (λ _. refl) (refl, refl, refl, refl, refl, refl, refl) (λ p q r. jump-form (condition_of (at c.args.row.now 1)) (signed (at c.args.row.now 2)) (bool_of (at c.args.row.now 3)) near))) c.if-fits-14.ensures (c.jump.ensures ∙ ap (λ (z : ℤ). jump_seen (condition_of (at c.args.row.now 1)) z (bool_of (at c.args.row.now 3))) (to_z-of_z {w = w32} (sfits_of c.signed-y.type_inv) ∙ c.signed-y.ensures))
+
+pub returns-in-35 : goal.returns-in-35
+unfolding fields instruction_of others immediate_in
+returns-in-35 c = unmixed c.args.row.now c.told-row (mixed (at c.args.row.now 1 % 256) (at c.args.row.now 2 % 256)) _ (λ clash. (line c.args.row.now 35 15 15 4294967295 c.in-35.is refl (λ _. refl) (refl, refl, refl, refl, refl, refl, refl) (λ p q r. immediate_form _ _ _ clash))) refl c.if-fits-18.ensures c.immediate.ensures

@@ -3,14 +3,14 @@ use Rattle.text.proofs.Putting.{putting_start, putting_next, putting_end}
 use Rattle.row_lines.proofs.Writing.{fields-place}
 use Rattle.row_lines.proofs.put_fields.Goals as goal
 
-pub loop-i-init : goal.loop-i-init
-loop-i-init c = putting_start _ _ _ _
+pub loop-n-init : goal.loop-n-init
+loop-n-init c = putting_start _ _ _
 
-pub put_field-next-requires : goal.put_field-next-requires
-put_field-next-requires c = omega (arith, fields-place c.loop-i.invariant)
+pub put_head-requires : goal.put_head-requires
+put_head-requires c = omega (arith, fields-place c.loop-n.invariant)
 
-pub loop-i-preserved : goal.loop-i-preserved
-loop-i-preserved c = putting_next _ _ _ _ _ c.loop-i.invariant c.loop-i-test.true c.put_field-next.ensures
+pub loop-n-preserved : goal.loop-n-preserved
+loop-n-preserved c = putting_next _ _ _ _ c.loop-n.invariant c.loop-n-test.true (rw c.from.ensures at c.put_head.ensures)
 
 pub returns : goal.returns
-returns c = putting_end _ _ _ _ _ c.loop-i.invariant c.loop-i-test.false
+returns c = putting_end _ _ _ _ c.loop-n.invariant c.loop-n-test.false

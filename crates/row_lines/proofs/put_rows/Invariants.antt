@@ -1,10 +1,6 @@
--- The lines so far stand at the front.
-use Rattle.std.proofs.Common.{◌-◌, length}
+-- The lines so far stand at the end.
 use Rattle.row_lines.proofs.Writing.{Lining}
 use Rattle.row_lines.proofs.put_rows.Given as goal
 
 abbrev pub invariant-loop-i : goal.invariant-loop-i
-invariant-loop-i l = Lining l.initial.out l.at l.places l.rows l.i l.next l.out
-
-abbrev pub decreases-loop-i : goal.decreases-loop-i
-decreases-loop-i l = length l.places - l.i
+invariant-loop-i l = Lining l.initial.text l.places l.rows l.i l.text

@@ -1,9 +1,7 @@
--- The glance is right about the row, which is the part of the slice.
-use Prim.Native.Nat.{◌*◌}
-use native.Mathlib.Nat.{add-sub_cancel_left}
-use native.Mathlib.Omega.{arith}
-use Rattle.runs.proofs.Turning.{turned_by}
+-- The glance is right about the row, and its form is put.
+use Rattle.std.proofs.Common.{sym, arith}
+use Rattle.runs.proofs.Turning.{taken_by}
 use Rattle.runs.proofs.next.Goals as goal
 
 pub returns : goal.returns
-returns c = turned_by _ _ _ _ _ (omega arith) (omega arith) c.seen.result (rw (add-sub_cancel_left (c.args.run.row * 17) 17) at c.seen.ensures) c.take_seen.ensures.0 c.take_seen.ensures.1
+returns c = λ rows r left. taken_by rows _ _ _ _ left (omega arith) c.in_ok-glance.glance r c.in_ok-glance.ensures (sym c.in_ok-form.ensures) c.take.ensures.0 c.take.ensures.1

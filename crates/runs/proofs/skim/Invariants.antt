@@ -1,11 +1,9 @@
--- A turn while the run may go on.
-use Rattle.runs.proofs.Turning.{Along, left_over}
+-- The rows so far.
+use Rattle.runs.proofs.Turning.{Along}
 use lib.ListN.{length}
 use mathlib.Core.Path.{◌≡◌}
+use Prim.Native.Nat.{◌+◌}
 use Rattle.runs.proofs.skim.Given as goal
 
-abbrev pub invariant-loop-turn : goal.invariant-loop-turn
-invariant-loop-turn l = (Along l.rows l.room l.free l.initial.turn.run l.initial.parcels l.turn l.parcels) × (length l.parcels ≡ length l.initial.parcels)
-
-abbrev pub decreases-loop-turn : goal.decreases-loop-turn
-decreases-loop-turn l = left_over l.rows l.turn
+abbrev pub invariant-loop-row : goal.invariant-loop-row
+invariant-loop-row l = Along l.rows l.room l.free l.initial.run l.initial.parcels l.run l.parcels × (l.run.row ≡ l.initial.run.row + l.row-index) × (length l.parcels ≡ length l.initial.parcels)

@@ -3,12 +3,8 @@ use Rattle.refusals.specs.Scan.{Going}
 use Rattle.settling.specs.Settling.{wait_chk, waited}
 use Rattle.places.specs.Items.{kernel_of}
 use lib.ListN.{length}
-use Prim.Native.Nat.{◌-◌}
 use mathlib.Core.Path.{◌≡◌}
 use Rattle.settling.proofs.aim_all.Given as goal
 
 abbrev pub invariant-loop-k : goal.invariant-loop-k
 invariant-loop-k l = (Going (wait_chk (kernel_of l.rows l.names) l.labels l.n l.jumps) (waited (kernel_of l.rows l.names) l.labels l.n l.jumps) l.initial.parcels l.count l.k l.parcels) × (length l.parcels ≡ length l.initial.parcels)
-
-abbrev pub decreases-loop-k : goal.decreases-loop-k
-decreases-loop-k l = l.count - l.k

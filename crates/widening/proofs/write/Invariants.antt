@@ -1,10 +1,6 @@
 -- The copies and the changes so far stand at the front of the lent slices.
-use Prim.Native.Nat.{◌-◌}
 use Rattle.widening.proofs.Writing.{Along}
 use Rattle.widening.proofs.write.Given as goal
 
 abbrev pub invariant-loop-i : goal.invariant-loop-i
 invariant-loop-i l = Along l.rows l.names l.initial.copy l.initial.changes l.i l.done l.copy l.changes
-
-abbrev pub decreases-loop-i : goal.decreases-loop-i
-decreases-loop-i l = l.n - l.i

@@ -1,11 +1,12 @@
+use Rattle.std.proofs.Common.{arith}
 use Rattle.hex_lines.proofs.Feeding.{feeding_start, feeding_next, feeding_end, has_more}
 use Rattle.hex_lines.proofs.Reader.feed.Goals as goal
 
-pub loop-i-init : goal.loop-i-init
-loop-i-init c = feeding_start _ _ _ c.requires
+pub loop-b-init : goal.loop-b-init
+loop-b-init c = feeding_start _ _ c.requires
 
-pub loop-i-preserved : goal.loop-i-preserved
-loop-i-preserved c = feeding_next _ _ _ _ _ c.loop-i.invariant c.loop-i-test.true c.turn-s.ensures
+pub loop-b-preserved : goal.loop-b-preserved
+loop-b-preserved c = feeding_next _ _ _ _ c.loop-b.invariant (omega arith) c.turn.ensures
 
 pub returns : goal.returns
-returns c = λ past h. has_more past _ (feeding_end _ _ _ _ _ c.loop-i.invariant c.loop-i-test.false) h
+returns c = λ past h. has_more past _ (feeding_end _ _ _ _ c.loop-b.invariant (omega arith)) h

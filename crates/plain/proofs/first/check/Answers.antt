@@ -2,4 +2,4 @@
 use Rattle.plain.proofs.first.check.Goals as goal
 
 pub returns-in-LoopEnd : goal.returns-in-LoopEnd
-returns-in-LoopEnd c = rw c.in-LoopEnd.is (c.end_check.ensures c.args.rooms)
+returns-in-LoopEnd c = rw (c.in_ok-coding.was, c.in-LoopEnd.is) (c.end_check.ensures c.args.rooms)

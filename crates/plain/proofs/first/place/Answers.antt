@@ -3,26 +3,26 @@ use Rattle.std.proofs.Common.{sym, ◌∙◌, rules}
 use Rattle.plain.proofs.Walking.{along_next, along_stop, along_end, check-fine, pass-fine, enter_fine}
 use Rattle.plain.proofs.first.place.Goals as goal
 
-pub check-verdict-requires : goal.check-verdict-requires
-check-verdict-requires c = check-fine _ _ _ _ c.requires.rooming c.requires.few _ c.loop-i.invariant.0 c.loop-i-test.true c.coded_at-item.ensures
+pub check-requires : goal.check-requires
+check-requires c = check-fine _ _ _ _ c.requires.rooming c.requires.few _ c.loop-i.invariant.0 c.loop-i-test.true c.coded_at-item.ensures
 
-pub returns-in-Refused : goal.returns-in-Refused
-returns-in-Refused c =
-    rw c.in-Refused.is
-    (along_stop _ _ _ c.requires.rooming _ c.loop-i.invariant.0 c.loop-i-test.true c.coded_at-item.ensures (sym c.check-verdict.ensures ∙ c.in-Refused.is))
+pub returns-in-Err : goal.returns-in-Err
+returns-in-Err c =
+    rw c.at.ensures
+    (along_stop _ _ _ c.requires.rooming _ c.loop-i.invariant.0 c.loop-i-test.true c.coded_at-item.ensures (sym c.check.ensures ∙ c.in-Err.is))
 
 pub enter-requires : goal.enter-requires
 enter-requires c =
-    enter_fine _ _ _ c.requires.rooming _ c.loop-i.invariant.0 c.loop-i-test.true c.coded_at-item.ensures (sym c.check-verdict.ensures ∙ c.in-Good.is)
+    enter_fine _ _ _ c.requires.rooming _ c.loop-i.invariant.0 c.loop-i-test.true c.coded_at-item.ensures (sym c.check.ensures ∙ c.in_default.is)
 
 pub and-before-requires : goal.and-before-requires
 and-before-requires c =
     rw c.about.ensures
-    (pass-fine _ _ _ c.requires.rooming _ c.loop-i.invariant.0 c.loop-i-test.true c.coded_at-item.ensures (sym c.check-verdict.ensures ∙ c.in-Good.is))
+    (pass-fine _ _ _ c.requires.rooming _ c.loop-i.invariant.0 c.loop-i-test.true c.coded_at-item.ensures (sym c.check.ensures ∙ c.in_default.is))
 
 pub loop-i-preserved : goal.loop-i-preserved
 loop-i-preserved c = (
-  along_next _ _ _ c.requires.rooming _ c.loop-i.invariant.0 c.loop-i-test.true c.coded_at-item.ensures (sym c.check-verdict.ensures ∙ c.in-Good.is) _ c.enter.ensures (rw c.about.ensures at c.and-before.ensures),
+  along_next _ _ _ c.requires.rooming _ c.loop-i.invariant.0 c.loop-i-test.true c.coded_at-item.ensures (sym c.check.ensures ∙ c.in_default.is) _ c.enter.ensures (rw c.about.ensures at c.and-before.ensures),
   search rules,
   search rules,
 )

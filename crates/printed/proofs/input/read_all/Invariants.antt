@@ -4,4 +4,4 @@ use Rattle.reader.specs.Steps.{HasSome}
 use Rattle.printed.proofs.input.read_all.Given as goal
 
 abbrev pub invariant-loop : goal.invariant-loop
-invariant-loop l = HasSome l.s.reader l.rows l.names × (15384 ≤ length l.out)
+invariant-loop l = HasSome l.inputs.reader × (15384 ≤ length l.out)

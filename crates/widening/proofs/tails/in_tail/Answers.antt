@@ -20,7 +20,7 @@ returns-then-inner-item c =
     let i = c.loop-i.i in
     let more = c.loop-i-test.true in
     λ names read paired twin.
-    ahead-found (kernel_of rows names) row (twin-marked rows names row (read row c.requires) twin) paired (c.loop-i.invariant.2 names read paired twin) (row-marked rows names i (read i more)) more c.if-seen-le-LOOP_TAIL.true (rw c.mark_at-item.ensures at c.if-inner-item.true)
+    ahead-found (kernel_of rows names) row (twin-marked rows names row (read row c.requires) twin) paired (c.loop-i.invariant.2 names read paired twin) (row-marked rows names i (read i more)) more c.if-seen-gt-LOOP_TAIL.false (rw c.mark_at-item.ensures at c.if-inner-item.true)
 
 pub overflow_add-inner : goal.overflow_add-inner
 overflow_add-inner c = rw c.mark_at-item.ensures (omega (arith, (mark-small (get_or c.args.rows.now (c.loop-i.i * 17) 0)).opens, c.loop-i.invariant.0))
@@ -41,12 +41,12 @@ loop-i-preserved c =
           ahead-on (kernel_of rows names) row (twin-marked rows names row (read row c.requires) twin) paired (c.loop-i.invariant.2 names read paired twin) (row-marked rows names i (read i more)) more (rw c.mark_at-item.ensures at c.if-inner-item.false),
     )
 
-pub returns-else-seen-le-LOOP_TAIL : goal.returns-else-seen-le-LOOP_TAIL
-returns-else-seen-le-LOOP_TAIL c =
+pub returns-then-seen-gt-LOOP_TAIL : goal.returns-then-seen-gt-LOOP_TAIL
+returns-then-seen-gt-LOOP_TAIL c =
     let rows = c.args.rows.now in
     let row = c.args.row in
     λ names read paired twin.
-    ahead-far (kernel_of rows names) row (twin-marked rows names row (read row c.requires) twin) paired (c.loop-i.invariant.2 names read paired twin) c.if-seen-le-LOOP_TAIL.false
+    ahead-far (kernel_of rows names) row (twin-marked rows names row (read row c.requires) twin) paired (c.loop-i.invariant.2 names read paired twin) c.if-seen-gt-LOOP_TAIL.true
 
 pub returns-after-loop-i : goal.returns-after-loop-i
 returns-after-loop-i c =
