@@ -79,7 +79,7 @@ fn is_changed(rows: &[u32], names: &[u8], paired: bool, i: usize) -> bool
         && tails::in_tail(rows, i)
 }
 
-// How many rows are changed. (As a chain of `filter` and `count` it was left unproved.)
+// How many rows are changed. (No `filter` and `count`: the check does not prove the chain.)
 fn count_changes(rows: &[u32], names: &[u8], paired: bool) -> usize
     requires { Listing rows.now names.now paired }
     ensures { (result ≡ changed rows.now names.now) × (result ≤ row_count rows.now) }
