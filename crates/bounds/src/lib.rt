@@ -1,10 +1,10 @@
 // The numbers that may stand in the places of a row, and a row's refusals 2 and 4.
 #![tactic(auto)]
 
-ghost use Rattle.std.specs.Prelude.{◌≡◌, ◌∷◌, [], ◌+◌, ◌≤◌, length, take, drop};
+ghost use Rattle.std.specs.Prelude.{◌≡◌, true, ◌∷◌, [], ◌+◌, ◌≤◌, length, take, drop};
 ghost use Rattle.bounds.specs.Tables.{lookup};
 ghost use Rattle.bounds.specs.Bounds.{never, form, is_instruction, is_compute, single, fields, compute, bounds_of, filled};
-ghost use Rattle.bounds.specs.Checks.{late, place, said, places_of, inside, refusal_of, check_of};
+ghost use Rattle.bounds.specs.Checks.{Places, late, place, said, places_of, inside, refusal_of, check_of};
 
 use refusals::{Refusal, Verdict};
 
@@ -207,6 +207,19 @@ fn held(bound: u64, v: u32, rest: Places) -> Places
     }
 }
 
+// Whether eight places of a row from `from` on lie below their bounds: then they say nothing before the places that follow.
+fn are_below(row: &[u32], from: usize, bounds: [u64; 8]) -> bool
+    requires { from + 8 ≤ length row.now }
+    ensures { result ≡ true → (rest : Places) → rest ≡ said bounds (drop from row.now) rest }
+{
+    for k in (0..8).rev() {
+        if bounds[k] <= row[from + k] as u64 {
+            return false;
+        }
+    }
+    true
+}
+
 // Eight places of a row from `from` on, with their bounds, before places that say `rest`.
 fn eight(row: &[u32], from: usize, bounds: [u64; 8], rest: Places) -> Places
     requires { from + 8 ≤ length row.now }
@@ -219,13 +232,19 @@ fn eight(row: &[u32], from: usize, bounds: [u64; 8], rest: Places) -> Places
     found
 }
 
-// What the sixteen places after a row's kind say.
+// What the sixteen places after a row's kind say. Those of most rows lie below their bounds: what is found is carried through the tests
+// of the others alone.
 fn sixteen(row: &[u32]) -> Places
     requires { length row.now ≡ 17 }
     ensures { result ≡ places_of row.now }
 {
-    let last = eight(row, 9, back(row), Ok(()));
-    eight(row, 1, front(row), last)
+    let first = front(row);
+    let last = back(row);
+    if are_below(row, 1, first) && are_below(row, 9, last) {
+        return Ok(());
+    }
+    let after = eight(row, 9, last, Ok(()));
+    eight(row, 1, first, after)
 }
 
 // Whether the name of a label or a jump, if the row is one, lies in the names.

@@ -7,7 +7,7 @@ ghost use Rattle.std.specs.Prelude.{◌≡◌};
 ghost use Rattle.bounds.specs.Tables.{at};
 ghost use Rattle.rows.specs.Fields.{condition_of};
 ghost use Rattle.combined.specs.Right.{Right};
-ghost use Rattle.glances.specs.Glances.{fits_of, access_in, jump_seen, immediate_in};
+ghost use Rattle.glances.specs.Glances.{fits_of, single_in, access_in, jump_seen, immediate_in};
 
 use combined::{Glance, four, single_word, third};
 use encode::checks::{in_dag, is_mixed};
@@ -52,9 +52,11 @@ fn fits(row: &[u32; ROW_WIDTH], a: u32, b: u32, c: u32) -> bool
 }
 
 // A single compute.
+#[tactic(auto, unfolding(crate::specs::Glances::single_in))]
 fn single(row: &[u32; ROW_WIDTH], kind: u32) -> Option<Glance>
     requires { at row.now 0 ≡ kind }
-    ensures { Right row.now result }
+    ensures shown { result ≡ single_in row.now }
+    ensures right { Right row.now result }
 {
     let most = third(kind)?;
     let w = single_word(kind, row[1], row[2], row[3])?;

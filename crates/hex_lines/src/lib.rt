@@ -5,7 +5,7 @@ pub mod input;
 
 ghost use Rattle.std.specs.Prelude.{◌≡◌, List, [], ◌++◌, ℕ, ◌<◌, ◌≤◌, ◌^◌, IfSome};
 ghost use Rattle.hex_lines.specs.Parcels.{said};
-ghost use Rattle.hex_lines.specs.Steps.{hex_digit, Fine, FineIn, line_start, unread_line, is_begun, digit_of, begin_of, word_of, count_of, byte_of, mem, end_of, turn_at, turn_of, ended, Reads, Has, HasSome, Tells, Within};
+ghost use Rattle.hex_lines.specs.Steps.{hex_digit, Fine, FineIn, line_start, unread_line, is_begun, digit_of, begin_of, word_of, count_of, byte_of, mem, end_of, turn_at, turn_in, turn_of, ended, Reads, Has, HasSome, Tells, Within};
 
 use reader::Unread;
 
@@ -33,7 +33,7 @@ pub struct Place {
 }
 
 // A reader: its place in the line at hand, or past one that is unread; and the parcels of the lines before, with zeros after them.
-#[derive(Drop)]
+#[derive(Clone, Copy)]
 pub struct Reader {
     pub place: Result<Place, Unread>,
     pub parcels: [u16; 3072],
@@ -183,6 +183,14 @@ impl Place {
     }
 }
 
+// One byte; past an unread line nothing is read.
+fn turn_in(place: Result<Place, Unread>, b: u8, parcels: &mut [u16; 3072]) -> Result<Place, Unread>
+    requires { FineIn place }
+    ensures { mem result parcels.new ≡ turn_in place parcels.old b }
+{
+    place?.turn(b, parcels)
+}
+
 // These are the bench program's reader's methods at another line and another result. One generic reader is no plainer: what it has read
 // borrows from it, so a trait would have to name a type with a lifetime, which the language lacks.
 impl Reader {
@@ -196,25 +204,25 @@ impl Reader {
         }
     }
 
-    // One byte; past an unread line nothing is read.
+    // One byte.
     #[tactic(auto, unfolding(crate::specs::Steps::turn_of))]
     fn turn(&mut self, b: u8)
         requires { FineIn self.old.place }
         ensures { self.new ≡ turn_of self.old b }
     {
-        if let Ok(place) = self.place {
-            self.place = place.turn(b, &mut self.parcels);
-        }
+        self.place = turn_in(self.place, b, &mut self.parcels);
     }
 
-    // A chunk of the input is read.
+    // A chunk of the input is read. The place goes from byte to byte beside the reader.
     pub fn feed(&mut self, chunk: &[u8])
         requires { HasSome self.old }
         ensures { (past : List ℕ) → Has past self.old → Has (past ++ chunk.now) self.new }
     {
+        let mut place = self.place;
         for b in chunk {
-            self.turn(*b);
+            place = turn_in(place, *b, &mut self.parcels);
         }
+        self.place = place;
     }
 
     // The input ends, and with it a line at hand.

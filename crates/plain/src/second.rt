@@ -55,10 +55,7 @@ fn write_item(
             condition,
             start,
             length,
-        } => {
-            let word = jump_word(names, labels, n, at, condition, start, length);
-            put(parcels, at, word)
-        }
+        } => put_jump(parcels, names, labels, n, at, condition, start, length),
         Item::LoopBegin { .. } => put(parcels, at, start_word(rows, names, i)),
         Item::Label { .. } | Item::LoopEnd => Ok(()),
     }
@@ -71,6 +68,26 @@ fn put(parcels: &mut [u16], at: usize, form: Result<Form, Refusal>) -> Verdict
 {
     tables::put_form(parcels, at, form);
     encode::form_verdict(form)
+}
+
+// The parcels of a jump to the label of its name stand at a place; or why it has none.
+fn put_jump(
+    parcels: &mut [u16],
+    names: &[u8],
+    labels: &[u32],
+    n: usize,
+    at: usize,
+    condition: Condition,
+    start: u32,
+    len: u32,
+) -> Verdict
+    requires named { (label_width * n ≤ length labels.now) × Entries names.now labels.now n × (at ≤ most_parcels) × (start + len ≤ length names.now) }
+    requires roomy { at + length (form_parcels (jump_word condition at start len (lookup names.now labels.now start len n))) ≤ length parcels.old }
+    ensures told { result ≡ form_verdict (jump_word condition at start len (lookup names.now labels.now start len n)) }
+    ensures written { parcels.new ≡ sets parcels.old at (form_parcels (jump_word condition at start len (lookup names.now labels.now start len n))) }
+{
+    let word = jump_word(names, labels, n, at, condition, start, len);
+    put(parcels, at, word)
 }
 
 // The word of a jump at a place to the label of its name: 12 if there is none, 9 if it is too far.

@@ -5,7 +5,7 @@ pub mod input;
 
 ghost use Rattle.std.specs.Prelude.{◌≡◌, List, [], ◌++◌, ℕ, ◌<◌};
 ghost use Rattle.reader.specs.Lines.{said};
-ghost use Rattle.reader.specs.Steps.{Fine, FineIn, line_start, unread_line, is_begun, in_name, with_digit, digit_of, with, letter_of, name_of_kind, name_after, tab_of, end_of, mem, turn_at, turn_of, ended, Reads, Has, HasSome, Tells, Within};
+ghost use Rattle.reader.specs.Steps.{Fine, FineIn, line_start, unread_line, is_begun, in_name, with_digit, digit_of, with, letter_of, name_of_kind, name_after, tab_of, end_of, mem, turn_at, turn_in, turn_of, ended, Reads, Has, HasSome, Tells, Within};
 
 // A place in the line at hand, which is number `items` + 1. What holds of it, `Fine`, stands in the contracts: a type with an invariant
 // has no `..self`.
@@ -31,7 +31,7 @@ pub struct Unread {
 }
 
 // A reader: its place in the line at hand, or past one that is unread; and what the lines before say, with zeros after it.
-#[derive(Drop)]
+#[derive(Clone, Copy)]
 pub struct Reader {
     pub place: Result<Place, Unread>,
     pub rows: [u32; 8704],
@@ -208,6 +208,19 @@ impl Place {
     }
 }
 
+// One byte; past an unread line nothing is read.
+fn turn_in(
+    place: Result<Place, Unread>,
+    b: u8,
+    rows: &mut [u32; 8704],
+    names: &mut [u8; 2048],
+) -> Result<Place, Unread>
+    requires { FineIn place }
+    ensures { mem result rows.new names.new ≡ turn_in place rows.old names.old b }
+{
+    place?.turn(b, rows, names)
+}
+
 impl Reader {
     // A reader that has read nothing.
     pub fn new() -> Reader
@@ -220,25 +233,25 @@ impl Reader {
         }
     }
 
-    // One byte; past an unread line nothing is read.
+    // One byte.
     #[tactic(auto, unfolding(crate::specs::Steps::turn_of))]
     fn turn(&mut self, b: u8)
         requires { FineIn self.old.place }
         ensures { self.new ≡ turn_of self.old b }
     {
-        if let Ok(place) = self.place {
-            self.place = place.turn(b, &mut self.rows, &mut self.names);
-        }
+        self.place = turn_in(self.place, b, &mut self.rows, &mut self.names);
     }
 
-    // A chunk of the input is read.
+    // A chunk of the input is read. The place goes from byte to byte beside the reader: kept in it, it was loaded and stored at each.
     pub fn feed(&mut self, chunk: &[u8])
         requires { HasSome self.old }
         ensures { (past : List ℕ) → Has past self.old → Has (past ++ chunk.now) self.new }
     {
+        let mut place = self.place;
         for b in chunk {
-            self.turn(*b);
+            place = turn_in(place, *b, &mut self.rows, &mut self.names);
         }
+        self.place = place;
     }
 
     // The input ends, and with it a line at hand.

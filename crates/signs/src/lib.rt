@@ -19,7 +19,8 @@ pub fn fold(z: i64, size: u64) -> u64
     requires { (mag z < size) × (size ≤ 2 ^ 32) }
     ensures { ((n : ℕ) → size ≡ 2 ^ n → result ≡ folded n z) × (result < size) }
 {
-    z.cast_unsigned() % size
+    let from = if z < 0 { size } else { 0 };
+    from.wrapping_add_signed(z)
 }
 
 // Whether a number lies from `low` to `high`, both in.

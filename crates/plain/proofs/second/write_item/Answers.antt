@@ -8,18 +8,17 @@ use Rattle.tables.proofs.Lookups.{entries_in}
 use Rattle.plain.proofs.Writing.{place_few, jump_fits, jump_wrote, loop-fits, loop_wrote}
 use Rattle.plain.proofs.second.write_item.Goals as goal
 
-pub jump_word-word-requires : goal.jump_word-word-requires
-jump_word-word-requires c =
+pub put_jump-requires : goal.put_jump-requires
+put_jump-requires c =
     let k = kernel_of c.args.rows.now c.args.names.now in
     let w = c.requires.writable in
     let fine = row_fine c.args.rows.now c.args.names.now in
     let u = place_few k w c.requires.before in
-    (w.labels_in, rw w.count_is (entries_in k k.n _ w.held fine), omega (arith, c.requires.at_is), rw (sym c.requires.is ∙ c.in_ok-coding.was ∙ ap Ok c.in-Jump.is) at (fine c.args.i))
-
-pub put-requires-in-Jump : goal.put-requires-in-Jump
-put-requires-in-Jump c =
     let e = sym c.requires.is ∙ c.in_ok-coding.was ∙ ap Ok c.in-Jump.is in
-    rw (c.jump_word-word.ensures, c.requires.at_is) (jump_fits _ c.requires.writable c.requires.before e)
+    record {
+      named = (w.labels_in, rw w.count_is (entries_in k k.n _ w.held fine), omega (arith, c.requires.at_is), rw e at (fine c.args.i));
+      roomy = rw (c.requires.at_is) (jump_fits _ c.requires.writable c.requires.before e);
+    }
 
 pub start_word-requires : goal.start_word-requires
 start_word-requires c =
@@ -43,10 +42,9 @@ put-requires-in-LoopBegin c =
 
 pub returns-in-Jump : goal.returns-in-Jump
 returns-in-Jump c =
-    let j = c.jump_word-word.ensures in
-    let p = c.put-in-Jump.ensures in
+    let p = c.put_jump.ensures in
     jump_wrote _ c.requires.writable c.requires.before (sym c.requires.is ∙ c.in_ok-coding.was ∙ ap Ok c.in-Jump.is)
-    (rw (← c.requires.at_is, ← j) p.0) (rw (← c.requires.at_is, ← j) p.1)
+    (rw (← c.requires.at_is) p.told) (rw (← c.requires.at_is) p.written)
 
 pub returns-in-LoopBegin : goal.returns-in-LoopBegin
 returns-in-LoopBegin c =
