@@ -41,8 +41,8 @@ pub record Feeding (m : Reader) (chunk : List ℕ) (i : ℕ) (s : Reader) : Type
   pub here : run s (drop i chunk) ≡ run m chunk
   pub fine : FineIn s.place
 
-pub feeding_start : (s : Reader) (chunk : List ℕ) → HasSome s → Feeding s chunk 0 s
-feeding_start s chunk h = record { within = omega arith; here = refl; fine = has-fine s h }
+pub feeding_start : (s : Reader) (chunk : List ℕ) → FineIn s.place → Feeding s chunk 0 s
+feeding_start s chunk f = record { within = omega arith; here = refl; fine = f }
 
 pub feeding_next : (m : Reader) (chunk : List ℕ) (i : ℕ) (s : Reader) → Feeding m chunk i s → i < length chunk → {s' : Reader} → s' ≡ turn_of s (get_or chunk i 0) → Feeding m chunk (i + 1) s'
 feeding_next m chunk i s g h e =
@@ -56,6 +56,10 @@ pub feeding_end : (m : Reader) (chunk : List ℕ) (i : ℕ) (s : Reader) → Fee
 feeding_end m chunk i s g h =
     let e : i ≡ length chunk = omega (arith, g.within) in
     ap (λ (l : List ℕ). run s l) (sym (ap (λ (k : ℕ). drop k chunk) e ∙ drop-length chunk)) ∙ g.here
+
+-- an unread line is as far as the chunk goes
+pub feeding_unread : (m : Reader) (chunk : List ℕ) (i : ℕ) (s : Reader) (u : Unread) → Feeding m chunk i s → s.place ≡ Err u → s ≡ run m chunk
+feeding_unread m chunk i s u g e = sym (stays-unread s u (drop i chunk) e) ∙ g.here
 
 -- ---- the end of the input
 pub ends-fine : (s : Reader) → HasSome s → {s' : Reader} → s' ≡ ended s → FineIn s'.place

@@ -3,9 +3,9 @@
 
 pub mod input;
 
-ghost use Rattle.std.specs.Prelude.{◌≡◌, List, [], ◌++◌, ℕ, ◌<◌, ◌≤◌, ◌^◌, IfSome};
+ghost use Rattle.std.specs.Prelude.{◌≡◌, Ok, List, [], ◌++◌, ℕ, ◌<◌, ◌≤◌, ◌^◌, IfSome};
 ghost use Rattle.hex_lines.specs.Parcels.{said};
-ghost use Rattle.hex_lines.specs.Steps.{hex_digit, Fine, FineIn, line_start, unread_line, is_begun, digit_of, begin_of, word_of, count_of, byte_of, mem, end_of, turn_at, turn_in, turn_of, ended, Reads, Has, HasSome, Tells, Within};
+ghost use Rattle.hex_lines.specs.Steps.{hex_digit, Fine, FineIn, line_start, unread_line, is_begun, digit_of, begin_of, word_of, count_of, byte_of, mem, end_of, turn_at, run, turn_of, ended, Reads, Has, HasSome, Tells, Within};
 
 use reader::Unread;
 
@@ -181,14 +181,18 @@ impl Place {
         }
         self.byte(b)
     }
-}
 
-// One byte; past an unread line nothing is read.
-fn turn_in(place: Result<Place, Unread>, b: u8, parcels: &mut [u16; 3072]) -> Result<Place, Unread>
-    requires { FineIn place }
-    ensures { mem result parcels.new ≡ turn_in place parcels.old b }
-{
-    place?.turn(b, parcels)
+    // Bytes in turn, up to an unread line: what follows it is past over.
+    fn turns(self, chunk: &[u8], parcels: &mut [u16; 3072]) -> Result<Place, Unread>
+        requires { Fine self }
+        ensures { mem result parcels.new ≡ run (mem (Ok self) parcels.old) chunk.now }
+    {
+        let mut place = self;
+        for b in chunk {
+            place = place.turn(*b, parcels)?;
+        }
+        Ok(place)
+    }
 }
 
 // These are the bench program's reader's methods at another line and another result. One generic reader is no plainer: what it has read
@@ -204,13 +208,15 @@ impl Reader {
         }
     }
 
-    // One byte.
+    // One byte; past an unread line nothing is read.
     #[tactic(auto, unfolding(crate::specs::Steps::turn_of))]
     fn turn(&mut self, b: u8)
         requires { FineIn self.old.place }
         ensures { self.new ≡ turn_of self.old b }
     {
-        self.place = turn_in(self.place, b, &mut self.parcels);
+        if let Ok(place) = self.place {
+            self.place = place.turn(b, &mut self.parcels);
+        }
     }
 
     // A chunk of the input is read. The place goes from byte to byte beside the reader.
@@ -218,11 +224,9 @@ impl Reader {
         requires { HasSome self.old }
         ensures { (past : List ℕ) → Has past self.old → Has (past ++ chunk.now) self.new }
     {
-        let mut place = self.place;
-        for b in chunk {
-            place = turn_in(place, *b, &mut self.parcels);
+        if let Ok(place) = self.place {
+            self.place = place.turns(chunk, &mut self.parcels);
         }
-        self.place = place;
     }
 
     // The input ends, and with it a line at hand.

@@ -3,9 +3,9 @@
 
 pub mod input;
 
-ghost use Rattle.std.specs.Prelude.{◌≡◌, List, [], ◌++◌, ℕ, ◌<◌};
+ghost use Rattle.std.specs.Prelude.{◌≡◌, Ok, List, [], ◌++◌, ℕ, ◌<◌};
 ghost use Rattle.reader.specs.Lines.{said};
-ghost use Rattle.reader.specs.Steps.{Fine, FineIn, line_start, unread_line, is_begun, in_name, with_digit, digit_of, with, letter_of, name_of_kind, name_after, tab_of, end_of, mem, turn_at, turn_in, turn_of, ended, Reads, Has, HasSome, Tells, Within};
+ghost use Rattle.reader.specs.Steps.{Fine, FineIn, line_start, unread_line, is_begun, in_name, with_digit, digit_of, with, letter_of, name_of_kind, name_after, tab_of, end_of, mem, turn_at, run, turn_of, ended, Reads, Has, HasSome, Tells, Within};
 
 // A place in the line at hand, which is number `items` + 1. What holds of it, `Fine`, stands in the contracts: a type with an invariant
 // has no `..self`.
@@ -63,7 +63,7 @@ pub fn with_digit(value: Option<u32>, b: u8) -> Option<u32>
     ensures { result ≡ with_digit value b }
 {
     let digit = char::from(b).to_digit(10)?;
-    value.unwrap_or(0).checked_mul(10)?.checked_add(digit)
+    u32::try_from(u64::from(value.unwrap_or(0)) * 10 + u64::from(digit)).ok()
 }
 
 impl Place {
@@ -206,19 +206,23 @@ impl Place {
             _ => self.digit(b),
         }
     }
-}
 
-// One byte; past an unread line nothing is read.
-fn turn_in(
-    place: Result<Place, Unread>,
-    b: u8,
-    rows: &mut [u32; 8704],
-    names: &mut [u8; 2048],
-) -> Result<Place, Unread>
-    requires { FineIn place }
-    ensures { mem result rows.new names.new ≡ turn_in place rows.old names.old b }
-{
-    place?.turn(b, rows, names)
+    // Bytes in turn, up to an unread line: what follows it is past over.
+    fn turns(
+        self,
+        chunk: &[u8],
+        rows: &mut [u32; 8704],
+        names: &mut [u8; 2048],
+    ) -> Result<Place, Unread>
+        requires { Fine self }
+        ensures { mem result rows.new names.new ≡ run (mem (Ok self) rows.old names.old) chunk.now }
+    {
+        let mut place = self;
+        for b in chunk {
+            place = place.turn(*b, rows, names)?;
+        }
+        Ok(place)
+    }
 }
 
 impl Reader {
@@ -233,13 +237,15 @@ impl Reader {
         }
     }
 
-    // One byte.
+    // One byte; past an unread line nothing is read.
     #[tactic(auto, unfolding(crate::specs::Steps::turn_of))]
     fn turn(&mut self, b: u8)
         requires { FineIn self.old.place }
         ensures { self.new ≡ turn_of self.old b }
     {
-        self.place = turn_in(self.place, b, &mut self.rows, &mut self.names);
+        if let Ok(place) = self.place {
+            self.place = place.turn(b, &mut self.rows, &mut self.names);
+        }
     }
 
     // A chunk of the input is read. The place goes from byte to byte beside the reader: kept in it, it was loaded and stored at each.
@@ -247,11 +253,9 @@ impl Reader {
         requires { HasSome self.old }
         ensures { (past : List ℕ) → Has past self.old → Has (past ++ chunk.now) self.new }
     {
-        let mut place = self.place;
-        for b in chunk {
-            place = turn_in(place, *b, &mut self.rows, &mut self.names);
+        if let Ok(place) = self.place {
+            self.place = place.turns(chunk, &mut self.rows, &mut self.names);
         }
-        self.place = place;
     }
 
     // The input ends, and with it a line at hand.

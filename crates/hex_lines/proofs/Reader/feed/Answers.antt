@@ -1,14 +1,16 @@
-use Rattle.std.proofs.Common.{arith}
-use Rattle.hex_lines.specs.Steps.{turn_of}
-use Rattle.hex_lines.proofs.Feeding.{feeding_start, feeding_next, feeding_end, has_more}
+use mathlib.Core.Path.{sym, ap, ◌∙◌}
+use Rattle.std.specs.Prelude.{Result}
+use Rattle.hex_lines.specs.declared.Place.{Place}
+use Rattle.reader.specs.declared.Unread.{Unread}
+use Rattle.hex_lines.specs.Steps.{mem, run}
+use Rattle.hex_lines.proofs.Feeding.{has-fine, has_more, has-unread}
 use Rattle.hex_lines.proofs.Reader.feed.Goals as goal
 
-pub loop-b-init : goal.loop-b-init
-loop-b-init c = feeding_start _ _ c.requires
+pub turns-self-requires : goal.turns-self-requires
+turns-self-requires c = rw c.in-Ok.is at (has-fine _ c.requires)
 
-pub loop-b-preserved : goal.loop-b-preserved
-unfolding turn_of
-loop-b-preserved c = feeding_next _ _ _ _ c.loop-b.invariant (omega arith) c.turn_in-place.ensures
+pub returns-in-Ok : goal.returns-in-Ok
+returns-in-Ok c = λ past h. has_more past _ (c.turns-self.ensures ∙ ap (λ (p : Result Place Unread). run (mem p c.args.self.now.parcels) c.args.chunk.now) (sym c.in-Ok.is)) h
 
-pub returns : goal.returns
-returns c = λ past h. has_more past _ (feeding_end _ _ _ _ c.loop-b.invariant (omega arith)) h
+pub returns-in_default : goal.returns-in_default
+returns-in_default c = λ past h. has-unread past _ _ _ c.in_default.is h
