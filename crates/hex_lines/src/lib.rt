@@ -5,7 +5,7 @@ pub mod input;
 
 ghost use Rattle.std.specs.Prelude.{◌≡◌, Ok, List, [], ◌++◌, ℕ, ◌<◌, ◌≤◌, ◌^◌, IfSome};
 ghost use Rattle.hex_lines.specs.Parcels.{said};
-ghost use Rattle.hex_lines.specs.Steps.{hex_digit, Fine, FineIn, line_start, unread_line, is_begun, digit_of, begin_of, word_of, count_of, byte_of, mem, end_of, turn_at, run, turn_of, ended, Reads, Has, HasSome, Tells, Within};
+ghost use Rattle.hex_lines.specs.Steps.{hex_digit, Fine, FineIn, line_start, unread_line, is_begun, digit_of, begin_of, word_of, count_of, byte_of, mem, end_of, turn_at, run, ended, Reads, Has, HasSome, Tells, Within};
 
 use reader::Unread;
 
@@ -182,7 +182,7 @@ impl Place {
         self.byte(b)
     }
 
-    // Bytes in turn, up to an unread line: what follows it is past over.
+    // Bytes in turn, up to an unread line: what follows it is passed over.
     fn turns(self, chunk: &[u8], parcels: &mut [u16; 3072]) -> Result<Place, Unread>
         requires { Fine self }
         ensures { mem result parcels.new ≡ run (mem (Ok self) parcels.old) chunk.now }
@@ -208,18 +208,7 @@ impl Reader {
         }
     }
 
-    // One byte; past an unread line nothing is read.
-    #[tactic(auto, unfolding(crate::specs::Steps::turn_of))]
-    fn turn(&mut self, b: u8)
-        requires { FineIn self.old.place }
-        ensures { self.new ≡ turn_of self.old b }
-    {
-        if let Ok(place) = self.place {
-            self.place = place.turn(b, &mut self.parcels);
-        }
-    }
-
-    // A chunk of the input is read. The place goes from byte to byte beside the reader.
+    // A chunk of the input is read.
     pub fn feed(&mut self, chunk: &[u8])
         requires { HasSome self.old }
         ensures { (past : List ℕ) → Has past self.old → Has (past ++ chunk.now) self.new }
@@ -230,14 +219,14 @@ impl Reader {
     }
 
     // The input ends, and with it a line at hand.
-    #[tactic(auto, unfolding(crate::specs::Steps::ended, crate::specs::Steps::turn_of))]
+    #[tactic(auto, unfolding(crate::specs::Steps::ended))]
     fn end(&mut self)
         requires { FineIn self.old.place }
         ensures { self.new ≡ ended self.old }
     {
         if let Ok(place) = self.place {
             if place.is_begun() {
-                self.turn(b'\n');
+                self.place = place.turn(b'\n', &mut self.parcels);
             }
         }
     }

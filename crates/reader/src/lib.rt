@@ -5,7 +5,7 @@ pub mod input;
 
 ghost use Rattle.std.specs.Prelude.{◌≡◌, Ok, List, [], ◌++◌, ℕ, ◌<◌};
 ghost use Rattle.reader.specs.Lines.{said};
-ghost use Rattle.reader.specs.Steps.{Fine, FineIn, line_start, unread_line, is_begun, in_name, with_digit, digit_of, with, letter_of, name_of_kind, name_after, tab_of, end_of, mem, turn_at, run, turn_of, ended, Reads, Has, HasSome, Tells, Within};
+ghost use Rattle.reader.specs.Steps.{Fine, FineIn, line_start, unread_line, is_begun, in_name, with_digit, digit_of, with, letter_of, name_of_kind, name_after, tab_of, end_of, mem, turn_at, run, ended, Reads, Has, HasSome, Tells, Within};
 
 // A place in the line at hand, which is number `items` + 1. What holds of it, `Fine`, stands in the contracts: a type with an invariant
 // has no `..self`.
@@ -207,7 +207,7 @@ impl Place {
         }
     }
 
-    // Bytes in turn, up to an unread line: what follows it is past over.
+    // Bytes in turn, up to an unread line: what follows it is passed over.
     fn turns(
         self,
         chunk: &[u8],
@@ -237,18 +237,7 @@ impl Reader {
         }
     }
 
-    // One byte; past an unread line nothing is read.
-    #[tactic(auto, unfolding(crate::specs::Steps::turn_of))]
-    fn turn(&mut self, b: u8)
-        requires { FineIn self.old.place }
-        ensures { self.new ≡ turn_of self.old b }
-    {
-        if let Ok(place) = self.place {
-            self.place = place.turn(b, &mut self.rows, &mut self.names);
-        }
-    }
-
-    // A chunk of the input is read. The place goes from byte to byte beside the reader: kept in it, it was loaded and stored at each.
+    // A chunk of the input is read.
     pub fn feed(&mut self, chunk: &[u8])
         requires { HasSome self.old }
         ensures { (past : List ℕ) → Has past self.old → Has (past ++ chunk.now) self.new }
@@ -259,14 +248,14 @@ impl Reader {
     }
 
     // The input ends, and with it a line at hand.
-    #[tactic(auto, unfolding(crate::specs::Steps::ended, crate::specs::Steps::turn_of))]
+    #[tactic(auto, unfolding(crate::specs::Steps::ended))]
     fn end(&mut self)
         requires { FineIn self.old.place }
         ensures { self.new ≡ ended self.old }
     {
         if let Ok(place) = self.place {
             if place.is_begun() {
-                self.turn(b'\n');
+                self.place = place.turn(b'\n', &mut self.rows, &mut self.names);
             }
         }
     }
